@@ -1,0 +1,6 @@
+pub mod Lines
+pub mod Causes
+pub mod Rules
+pub mod Judged
+pub mod Files
+pub mod Readers

@@ -1,0 +1,13 @@
+ghost use Prim.Native.Nat.{ℕ, _<_};
+ghost use Rattle.plan.specs.declared.rules.Rule.{Rule};
+ghost use Rattle.plan.specs.Rules.{Keeps};
+use crate::drafts::Draft;
+
+mod judge;
+
+// A plan whose marks and counters are right: no value of this type breaks one of the five rules.
+#[derive(Clone, Copy)]
+pub struct Plan {
+    draft: Draft,
+    ghost right: { (rule : Rule) (h : ℕ) → h < draft .houses → ∥ Keeps rule draft h ∥₁ },
+}
