@@ -6,12 +6,16 @@ use native.Mathlib.Nat.{add-zero}
 use native.Mathlib.Omega.{arith}
 use lib.ListN.{length, getD, take, drop, replicate}
 use native.Mathlib.Numerals.{towards-suc}
-use Rattle.std.proofs.shelf.Lists.{getD-drop, getD-past, getD-take, take-rest, append-assoc, append-nil, take-append-drop, take-more, drop-drop, joined-more, length-append, length-replicate, length-drop, take-at}
+use Rattle.std.proofs.shelf.Lists.{getD-drop, getD-past, getD-take, take-rest, append-assoc, append-nil, take-append-drop, take-more, drop-drop, joined-more, length-append, length-replicate, length-drop, length-take-le, take-at, drop-at}
 use Rattle.std.specs.shelf.Lists.{joined}
+use borrow.Rule.Slice.PartMut.{putMid}
+use Rattle.plan.specs.declared.drafts.Draft.{Draft}
 use Rattle.plan.specs.declared.lines.Line.{Line}
-use Rattle.plan.specs.Files.{byte, mark, header, record-of, houses-in, lines-in, capacity-in, Versioned, Sized}
+use Rattle.plan.specs.Files.{byte, mark, header, record-of, file-of, houses-in, lines-in, capacity-in, Versioned, Sized}
 use Rattle.plan.specs.Lines.{blank, In-form}
 use Rattle.plan.specs.Readers.{Record-at, Records}
+use Rattle.plan.specs.Rules.{lines-of}
+use Rattle.plan.proofs.Forms.{length-lines}
 
 -- THE HEADER
 
@@ -114,3 +118,32 @@ module _ (f : List ℕ) (n m k : ℕ) (n-is : n ≡ houses-in f) (m-is : m ≡ l
       let tail : take n cs ≡ drop (9 + 3 * m) f = ap (take n) cs-is ∙ take-at (drop (9 + 3 * m) f) _ n counters-length in
       ap₂ _++_ head (ap₂ _++_ body (tail ∙ sym (drop-drop (3 * m) 9 f)) ∙ take-append-drop (3 * m) (drop 9 f))
       ∙ take-append-drop 9 f
+
+-- THE LENGTH
+
+pub records-length : (ls : List Line) → length (joined record-of ls) ≡ 3 * length ls
+records-length [] = refl
+records-length (l ∷ ls) = let more = records-length ls in omega arith
+
+pub file-length : (d : Draft) → length (file-of d) ≡ 9 + 3 * d .lines + d .houses
+file-length d =
+    let body = records-length (lines-of d) in
+    let all = length-append (joined record-of (lines-of d)) (take (d .houses) (d .counters)) in
+    omega (arith, length-lines d, length-take-le (d .houses) (d .counters) (omega arith))
+
+-- WRITING PART AFTER PART
+
+-- the part after the front is overwritten
+pub put-next : (xs front rest ys : List ℕ) (a k : ℕ) → xs ≡ front ++ rest → length front ≡ a → length ys ≡ k → putMid a k xs ys ≡ (front ++ ys) ++ drop k rest
+put-next xs front rest ys a k e at long =
+    ap (λ zs. putMid a k zs ys) e
+    ∙ ap₂ (λ u v. u ++ (ys ++ drop k v)) (take-at front rest a at) (drop-at front rest a at)
+    ∙ sym (append-assoc front ys (drop k rest))
+
+pub put-parts : (b h r t : List ℕ) (m n : ℕ) → length h ≡ 9 → length r ≡ m → length t ≡ n → putMid (9 + m) n (putMid 9 m (putMid 0 9 b h) r) t ≡ (h ++ (r ++ t)) ++ drop (9 + m + n) b
+put-parts b h r t m n lh lr lt =
+    let one = put-next b [] b h 0 9 refl refl lh in
+    let two = put-next (putMid 0 9 b h) h (drop 9 b) r 9 m one lh lr in
+    let three = put-next (putMid 9 m (putMid 0 9 b h) r) (h ++ r) (drop m (drop 9 b)) t (9 + m) n two (length-append h r ∙ omega arith) lt in
+    three
+    ∙ ap₂ _++_ (append-assoc h r t) (ap (drop n) (drop-drop m 9 b) ∙ drop-drop n (9 + m) b)

@@ -14,10 +14,10 @@ use Rattle.plan.specs.Files.{byte, Right-record, Wrong-record}
 use Rattle.plan.specs.Lines.{blank, marks-number, In-form}
 use Rattle.plan.specs.Readers.{Record-at, Records}
 
-pub blanks : (n i : ℕ) → getD (replicate n blank) i blank ≡ blank
-blanks zero i = refl
-blanks (suc n) zero = refl
-blanks (suc n) (suc i) = blanks n i
+pub all-alike : {X : Type 0} (x : X) (n i : ℕ) → getD (replicate n x) i x ≡ x
+all-alike x zero i = refl
+all-alike x (suc n) zero = refl
+all-alike x (suc n) (suc i) = all-alike x n i
 
 -- a byte of a part of the file
 pub cut : (xs : List ℕ) (a w j : ℕ) → j < w → byte (take w (drop a xs)) j ≡ byte xs (a + j)

@@ -1,14 +1,20 @@
 -- The rules in the order of their numbers.
-use Prim.Native.Nat.{ℕ, _<_}
-use mathlib.Core.Path.{_≡_}
+use Prim.Native.Nat.{ℕ, _-_, _<_}
+use mathlib.Core.List.{[]}
+use mathlib.Core.Path.{_≡_, sym, _∙_, ap, subst}
 use native.Mathlib.Omega.{arith}
-use Rattle.fault.specs.declared.faults.Fault.{Fault}
+use lib.ListN.{getD, take}
+use Rattle.std.specs.shelf.Lists.{countBy}
 use Rattle.fault.specs.Numbers.{number}
 use Rattle.plan.specs.declared.drafts.Draft.{Draft}
+use Rattle.plan.specs.declared.lines.End.{End}
 use Rattle.plan.specs.declared.lines.Way.{Way}
 use Rattle.plan.specs.declared.rules.Rule.{Rule}
 use Rattle.plan.specs.Causes.{cause-of}
 use Rattle.plan.specs.Judged.{Kept}
+use Rattle.plan.specs.Lines.{meets, serves}
+use Rattle.plan.specs.Rules.{lines-of, Keeps}
+use Rattle.plan.proofs.Ways.{head-leads}
 
 -- every rule of a number below N is kept
 abbrev pub Below : ℕ → Draft → Type 0
@@ -43,3 +49,16 @@ module _ (d : Draft) where
   every a b e f g (Rule.Single Way.Back) = e
   every a b e f g (Rule.Leading Way.Back) = f
   every a b e f g Rule.Counters = g
+
+-- one house with no line and a counter of 0 keeps every rule
+module _ (d : Draft) (one : d .houses ≡ 1) (none : d .lines ≡ 0) (idle : getD (d .counters) 0 0 ≡ 0) where
+  no-lines : lines-of d ≡ []
+  no-lines = ap (λ m. take m (d .records)) none
+
+  at-head : (q : Rule) → Keeps q d 0
+  at-head (Rule.Single w) = ap (countBy (serves w 0)) no-lines
+  at-head (Rule.Leading w) = head-leads w (lines-of d) (d .houses - 1)
+  at-head Rule.Counters = idle ∙ sym (ap (countBy (meets Way.Back End.To 0)) no-lines)
+
+  pub alone : (q : Rule) → Kept q d
+  alone q h lt = let e : 0 ≡ h = omega arith in subst (Keeps q d) e (at-head q)

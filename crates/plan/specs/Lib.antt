@@ -4,3 +4,5 @@ pub mod Rules
 pub mod Judged
 pub mod Files
 pub mod Readers
+pub mod Writers
+pub mod Plans

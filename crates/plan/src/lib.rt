@@ -16,5 +16,6 @@ pub use lines::MarksDebug;
 pub use lines::MarksEq;
 pub use lines::MarksPartialEq;
 pub use lines::Way;
+pub use plans::read;
 pub use plans::Plan;
 pub use rules::Rule;

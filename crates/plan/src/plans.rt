@@ -3,7 +3,12 @@ ghost use Rattle.plan.specs.declared.rules.Rule.{Rule};
 ghost use Rattle.plan.specs.Rules.{Keeps};
 use crate::drafts::Draft;
 
+mod access;
 mod judge;
+mod reader;
+mod writer;
+
+pub use reader::read;
 
 // A plan whose marks and counters are right: no value of this type breaks one of the five rules.
 #[derive(Clone, Copy)]

@@ -29,7 +29,7 @@ fn count(lines: &[Line], way: Way, end: End, house: usize) -> usize
 }
 
 // The lowest-numbered line of the tree that serves the house.
-fn server(lines: &[Line], way: Way, house: usize) -> Option<usize>
+pub fn server(lines: &[Line], way: Way, house: usize) -> Option<usize>
     ensures { λ r. ⌜ BySome r (No-server way (now (lines .entry)) house) (First-server way (now (lines .entry)) house) ⌝ }
 {
     for i in 0..lines.len() {
@@ -69,7 +69,7 @@ fn due_count(house: usize) -> usize
 
 impl Draft {
     // The lines, in the order of their numbers.
-    fn list(&self) -> &[Line]
+    pub fn list(&self) -> &[Line]
         ensures { λ r. ⌜ now r ≡ lines-of (now (self .entry)) ⌝ }
     {
         &self.records[0..self.lines]

@@ -7,11 +7,11 @@ use Rattle.fault.specs.Layers.{fault-at}
 use Rattle.std.proofs.shelf.Lists.{length-set}
 use Rattle.std.proofs.shelf.Results.{err-from-errBy}
 use Rattle.plan.specs.Lines.{blank}
-use Rattle.plan.proofs.Records.{blanks, record-cut, wrong-cut, right, records-more, spare-more}
+use Rattle.plan.proofs.Records.{all-alike, record-cut, wrong-cut, right, records-more, spare-more}
 use Rattle.plan.proofs.form.read_records.Needs as need
 
 pub loop-i-holds : need.loop-i-holds
-loop-i-holds c = (refl, (λ i h. absurd (omega arith)), (λ j _. blanks 128 j))
+loop-i-holds c = (refl, (λ i h. absurd (omega arith)), (λ j _. all-alike blank 128 j))
 
 pub returns-in-Break-records : need.returns-in-Break-records
 returns-in-Break-records c =
