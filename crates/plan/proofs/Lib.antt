@@ -1,7 +1,10 @@
+mod Accepted
+mod Bytes
 mod Counts
 mod Files
 mod Forms
 mod Records
 mod Refusals
+mod Same
 mod Verdicts
 mod Ways

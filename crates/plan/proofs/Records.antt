@@ -38,12 +38,12 @@ marks-few l = elim (l .marks) as (λ m. marks-number m ≤ 3) [ Marks.Neither �
 
 -- a line in form comes from a right record
 pub right : (xs : List ℕ) (n p : ℕ) (l : Line) → Record-at xs p l → In-form n l → Right-record n (byte xs p) (byte xs (p + 1)) (byte xs (p + 2))
-right xs n p l at form =
-    ( subst (λ x. x < n) (at .0) (form .0)
-    , subst (λ x. x < n) (at .1) (form .1)
-    , (λ e. form .2 (at .1 ∙ e ∙ sym (at .0)))
-    , subst (λ x. x ≤ 3) (at .2) (marks-few l)
-    )
+right xs n p l at form = (
+  subst (λ x. x < n) (at .0) (form .0),
+  subst (λ x. x < n) (at .1) (form .1),
+  (λ e. form .2 (at .1 ∙ e ∙ sym (at .0))),
+  subst (λ x. x ≤ 3) (at .2) (marks-few l),
+)
 
 module _ (xs : List ℕ) (n i : ℕ) (ls : List Line) (l : Line) where
   pub records-more : i < length ls → Records xs n i ls → Record-at xs (3 * i) l × In-form n l → Records xs n (i + 1) (set ls i l)

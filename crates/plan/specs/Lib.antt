@@ -5,4 +5,5 @@ pub mod Judged
 pub mod Files
 pub mod Readers
 pub mod Writers
+pub mod Trips
 pub mod Plans

@@ -16,6 +16,7 @@ pub use lines::MarksDebug;
 pub use lines::MarksEq;
 pub use lines::MarksPartialEq;
 pub use lines::Way;
-pub use plans::read;
 pub use plans::Plan;
+pub use plans::read;
+pub use plans::rewrite;
 pub use rules::Rule;

@@ -6,9 +6,11 @@ use crate::drafts::Draft;
 mod access;
 mod judge;
 mod reader;
+mod trips;
 mod writer;
 
 pub use reader::read;
+pub use trips::rewrite;
 
 // A plan whose marks and counters are right: no value of this type breaks one of the five rules.
 #[derive(Clone, Copy)]

@@ -9,8 +9,8 @@ ghost use Rattle.plan.specs.Rules.{lines-of, First-server, No-server};
 use crate::drafts::Draft;
 use crate::lines::Line;
 use crate::lines::Way;
-use crate::plans::judge::server;
 use crate::plans::Plan;
+use crate::plans::judge::server;
 
 impl Plan {
     // A plan place as it starts: one house, no line, capacity 1.

@@ -85,7 +85,8 @@ impl Draft {
         match rule {
             Rule::Single(way) => count(lines, way, way.near(), house) == due_count(house),
             Rule::Leading(way) => leads(lines, way, self.houses, house),
-            Rule::Counters => self.counters[house] as usize == count(lines, Way::Back, End::To, house),
+            Rule::Counters => self.counters[house] as usize
+                == count(lines, Way::Back, End::To, house),
         }
     }
 

@@ -35,7 +35,17 @@ impl Draft {
         let n = self.houses as u8;
         let m = self.lines;
         let k = self.capacity as u8;
-        [0x52, 0x4F, 0x57, 0, 1, n, (m / 256) as u8, (m % 256) as u8, k]
+        [
+            0x52,
+            0x4F,
+            0x57,
+            0,
+            1,
+            n,
+            (m / 256) as u8,
+            (m % 256) as u8,
+            k,
+        ]
     }
 }
 

@@ -38,7 +38,7 @@ returns-in-Break-check-5 c =
     rw (p .1, p .2) (Rule.Counters, broken .0, broken .1, below-11 (c .args .self) (c .in-Continue-check .ensures tt) (c .in-Continue-check-2 .ensures tt) (c .in-Continue-check-3 .ensures tt) (c .in-Continue-check-4 .ensures tt))
 
 pub ghost-result : need.ghost-result
-ghost-result c =
-    ( λ q h lt. ∣ every (c .args .self) (c .in-Continue-check .ensures tt) (c .in-Continue-check-2 .ensures tt) (c .in-Continue-check-3 .ensures tt) (c .in-Continue-check-4 .ensures tt) (c .in-Continue-check-5 .ensures tt) q h lt ∣₁
-    , tt
-    )
+ghost-result c = (
+  λ q h lt. ∣ every (c .args .self) (c .in-Continue-check .ensures tt) (c .in-Continue-check-2 .ensures tt) (c .in-Continue-check-3 .ensures tt) (c .in-Continue-check-4 .ensures tt) (c .in-Continue-check-5 .ensures tt) q h lt ∣₁,
+  tt,
+)

@@ -15,8 +15,8 @@ leads-requires c κs =
     let d = c .args .self .now in
     let formed : List Line → Type 0 = λ xs. (i : ℕ) → i < length xs → In-form (d .houses) (getD xs i blank) in
     let single : List Line → Type 0 = λ xs. (h : ℕ) → h < d .houses → countBy (serves (c .in-Leading .way) h) xs ≡ due h in
-    record
-      { within = c .pre .within
-      ; form = subst formed (sym (c .list-lines .ensures)) (form-of d)
-      ; single = subst single (sym (c .list-lines .ensures)) (subst (λ q. Ready q d) (c .in-Leading .is) (c .pre .ready))
-      }
+    record {
+      within = c .pre .within;
+      form = subst formed (sym (c .list-lines .ensures)) (form-of d);
+      single = subst single (sym (c .list-lines .ensures)) (subst (λ q. Ready q d) (c .in-Leading .is) (c .pre .ready));
+    }

@@ -31,15 +31,18 @@ ghost-result c =
     let head = c .in-Continue-houses .ensures tt in
     let got = c .in-Continue-records .ensures tt in
     let are = counters-are f (9 + 3 * s .lines) cs (c .read-counters-counters .ensures) in
-    let long = counters-length f (s .houses) (s .lines) (s .capacity) (head .3) (head .4) (head .5) (head .0) (head .2) in
-    ( (omega (arith, head), omega (arith, head), omega (arith, head), omega (arith, head), omega (arith, head))
-    , ( (got .0, counters-table f (9 + 3 * s .lines) cs are (omega (arith, head, long)))
-      , ( (λ i h. got .1 i h .1)
-        , ( counters-small f (9 + 3 * s .lines) cs are (λ i. c .typed .file i .fits)
-          , (got .2, (counters-rest f (9 + 3 * s .lines) cs are (s .houses) long, tt))
-          )
-        )
-      )
+    let long = counters-length f (s .houses) (s .lines) (s .capacity) (head .3) (head .4) (head .5) (head .0) (head .2) in (
+      (omega (arith, head), omega (arith, head), omega (arith, head), omega (arith, head), omega (arith, head)),
+      (
+        (got .0, counters-table f (9 + 3 * s .lines) cs are (omega (arith, head, long))),
+        (
+          (λ i h. got .1 i h .1),
+          (
+            counters-small f (9 + 3 * s .lines) cs are (λ i. c .typed .file i .fits),
+            (got .2, (counters-rest f (9 + 3 * s .lines) cs are (s .houses) long, tt)),
+          ),
+        ),
+      ),
     )
 
 pub returns : need.returns

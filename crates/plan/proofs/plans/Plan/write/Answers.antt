@@ -37,11 +37,11 @@ returns c =
     let t-long : length t ≡ n = ap length t-is ∙ length-take-le n (d .counters) (omega arith) in
     let m-is : 9 + m - 9 ≡ m = omega arith in
     let n-is : 9 + m + n - (9 + m) ≡ n = omega arith in
-    let whole : List _ → List _ → List _ → List _ = λ x y z. (x ++ (y ++ z)) ++ drop (9 + m + n) b in
-    ( sym (file-length d)
-    , omega (arith, c .if-buffer-length .left)
-    , ap₂ (λ i j. putMid (9 + m) j (putMid 9 i (putMid 0 9 b h) r) t) m-is n-is
-      ∙ put-parts b h r t m n h-long r-long t-long
-      ∙ ap (λ x. whole x r t) h-is
-      ∙ ap₂ (λ y z. whole (header (d .houses) (d .lines) (d .capacity)) y z) r-is t-is
+    let whole : List _ → List _ → List _ → List _ = λ x y z. (x ++ (y ++ z)) ++ drop (9 + m + n) b in (
+      sym (file-length d),
+      omega (arith, c .if-buffer-length .left),
+      ap₂ (λ i j. putMid (9 + m) j (putMid 9 i (putMid 0 9 b h) r) t) m-is n-is
+          ∙ put-parts b h r t m n h-long r-long t-long
+          ∙ ap (λ x. whole x r t) h-is
+          ∙ ap₂ (λ y z. whole (header (d .houses) (d .lines) (d .capacity)) y z) r-is t-is,
     )

@@ -9,11 +9,11 @@ use Rattle.plan.proofs.plans.judge.count.Needs.{then-meets, else-meets}
 
 pub loop-line-again : need.loop-line-again
 loop-line-again c =
-    elim (c .if-meets .came)
-    [ then-meets w ↦
-        omega (arith, w .count-is, countBy-more-yes (meets (c .args .way) (c .args .end) (c .args .house)) (c .args .lines .now) (c .loop-line .line-index) blank (omega arith) (sym (w .if-meets .ensures tt)))
-    | else-meets w ↦
-        omega (arith, w .count-is, countBy-more-no (meets (c .args .way) (c .args .end) (c .args .house)) (c .args .lines .now) (c .loop-line .line-index) blank (omega arith) (sym (w .if-meets .ensures tt)))
+    elim (c .if-meets .came) [
+      | then-meets w ↦
+          omega (arith, w .count-is, countBy-more-yes (meets (c .args .way) (c .args .end) (c .args .house)) (c .args .lines .now) (c .loop-line .line-index) blank (omega arith) (sym (w .if-meets .ensures tt)))
+      | else-meets w ↦
+          omega (arith, w .count-is, countBy-more-no (meets (c .args .way) (c .args .end) (c .args .house)) (c .args .lines .now) (c .loop-line .line-index) blank (omega arith) (sym (w .if-meets .ensures tt)))
     ]
 
 pub returns : need.returns

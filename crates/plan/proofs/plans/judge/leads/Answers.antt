@@ -38,8 +38,8 @@ loop-step-again c =
     let i = c .in-Some .i in
     let first = c .in-Some .ensures tt in
     let few : countBy (serves w h) xs ≤ 1 = omega (arith, c .pre .single h (c .loop-step .inv .0), due-few h) in
-    let next : ℕ → Type 0 = λ x. Leads w xs (n - (k + 1)) x in
-    ( subst (λ x. x < n) (sym (moved c)) (end-below w n (getD xs i blank) (c .pre .form i (first .0)))
-    , λ way. c .loop-step .inv .1 (leads-by w xs n k h i (c .loop-step-test .taken) first (subst next (moved c) way))
-    , λ way. subst next (sym (moved c)) (leads-on w xs n k h i (c .loop-step-test .taken) (c .if-at-eq0 .left) few first (c .loop-step .inv .2 way))
+    let next : ℕ → Type 0 = λ x. Leads w xs (n - (k + 1)) x in (
+      subst (λ x. x < n) (sym (moved c)) (end-below w n (getD xs i blank) (c .pre .form i (first .0))),
+      λ way. c .loop-step .inv .1 (leads-by w xs n k h i (c .loop-step-test .taken) first (subst next (moved c) way)),
+      λ way. subst next (sym (moved c)) (leads-on w xs n k h i (c .loop-step-test .taken) (c .if-at-eq0 .left) few first (c .loop-step .inv .2 way)),
     )

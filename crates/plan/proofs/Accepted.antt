@@ -1,0 +1,82 @@
+-- The file of a plan is never refused.
+use Prim.Native.Nat.{ℕ, zero, suc, _+_, _*_, _<_}
+use mathlib.Core.Logic.{inl, inr, ∥∥₁-elim}
+use mathlib.Core.Path.{_≡_, refl, _∙_, subst}
+use native.Mathlib.Omega.{arith}
+use std.HLevel.{⊥-prop}
+use lib.ListN.{length, getD, drop}
+use Rattle.fault.specs.declared.causes.Cause.{Cause}
+use Rattle.fault.specs.declared.causes.Cause.the-variants.{FileShort, WrongMark, WrongVersion, BeyondLimits, WrongLength, WrongRecord, DirectIn, DirectWay, BackOut, BackWay, WrongCounter, NoWayFromHead, NoWayToHead, BufferShort, Unfit, NoLine, NothingWaits, LineFull, LineEmpty, NoHouse, WrongReading, RoundOpen, NoRound, NoAnswer, ManyReadings, NoForm}
+use Rattle.fault.specs.declared.faults.Fault.{Fault}
+use Rattle.plan.specs.declared.drafts.Draft.{Draft}
+use Rattle.plan.specs.declared.plans.Plan.{Plan}
+use Rattle.plan.specs.Files.{file-of, houses-in, lines-in, Right-record, Wrong-record, First-wrong, Misjudged-file, Flaw, Refused}
+use Rattle.plan.specs.Judged.{Breaks}
+use Rattle.plan.specs.Lines.{blank}
+use Rattle.plan.proofs.Bytes.{lines-are, record-of-line, one-draft}
+use Rattle.plan.proofs.Files.{file-length}
+use Rattle.plan.proofs.Records.{right}
+
+not-both : (n a b c j : ℕ) → Right-record n a b c → Wrong-record n a b c j → ⊥
+not-both n a b c zero ok wrong = omega arith
+not-both n a b c (suc zero) ok (_, inl past) = omega arith
+not-both n a b c (suc zero) ok (_, inr same) = ok .2 same
+not-both n a b c (suc (suc zero)) ok wrong = omega arith
+not-both n a b c (suc (suc (suc j))) ok wrong = wrong
+
+module _ (d : Draft) where
+  sized : length (file-of d) ≡ 9 + (3 * lines-in (file-of d) + houses-in (file-of d))
+  sized = file-length d ∙ omega (arith, lines-are d)
+
+  no-wrong : (i j : ℕ) → First-wrong (houses-in (file-of d)) (lines-in (file-of d)) (drop 9 (file-of d)) i j → ⊥
+  no-wrong i j (lt, _, wrong) =
+      let here : i < d .lines = omega (arith, lines-are d) in
+      not-both (d .houses) _ _ _ j (right (drop 9 (file-of d)) (d .houses) (3 * i) (getD (d .records) i blank) (record-of-line d i here) (d .form i here)) wrong
+
+  wrong-mark : (p : ℕ) → Flaw WrongMark (file-of d) p → ⊥
+  wrong-mark zero (_, _, differs, _) = differs refl
+  wrong-mark (suc zero) (_, _, differs, _) = differs refl
+  wrong-mark (suc (suc zero)) (_, _, differs, _) = differs refl
+  wrong-mark (suc (suc (suc p))) (_, lt, _, _) = omega arith
+
+  beyond-limits : (p : ℕ) → Flaw BeyondLimits (file-of d) p → ⊥
+  beyond-limits p (_, inl (_, out)) = out (omega arith, omega arith)
+  beyond-limits p (_, inr (inl (_, _, out))) = omega (arith, lines-are d)
+  beyond-limits p (_, inr (inr (_, _, _, out))) = out (omega arith, omega arith)
+
+never-misjudged : (p : Plan) (v : Fault) → Misjudged-file (file-of (p .draft)) v → ⊥
+never-misjudged p v (d, same, (q, _, breaks, _)) =
+    let e : d ≡ p .draft = one-draft d (p .draft) same in
+    let broken : Breaks q (p .draft) (v .place) = subst (λ x. Breaks q x (v .place)) e breaks in
+    ∥∥₁-elim (p .right q (v .place) (broken .0)) ⊥-prop (broken .1)
+
+never : (p : Plan) (k : Cause) (at : ℕ) → Flaw k (file-of (p .draft)) at → ⊥
+never p FileShort at flaw = omega (arith, flaw .0)
+never p WrongMark at flaw = wrong-mark (p .draft) at flaw
+never p WrongVersion at flaw = flaw .2 refl
+never p BeyondLimits at flaw = beyond-limits (p .draft) at flaw
+never p WrongLength at flaw = flaw .2 (sized (p .draft))
+never p WrongRecord at flaw = no-wrong (p .draft) (flaw .3 .0) (flaw .3 .1) (flaw .3 .3)
+never p DirectIn at flaw = never-misjudged p _ flaw
+never p DirectWay at flaw = never-misjudged p _ flaw
+never p BackOut at flaw = never-misjudged p _ flaw
+never p BackWay at flaw = never-misjudged p _ flaw
+never p WrongCounter at flaw = never-misjudged p _ flaw
+never p NoWayFromHead at flaw = flaw
+never p NoWayToHead at flaw = flaw
+never p BufferShort at flaw = flaw
+never p Unfit at flaw = flaw
+never p NoLine at flaw = flaw
+never p NothingWaits at flaw = flaw
+never p LineFull at flaw = flaw
+never p LineEmpty at flaw = flaw
+never p NoHouse at flaw = flaw
+never p WrongReading at flaw = flaw
+never p RoundOpen at flaw = flaw
+never p NoRound at flaw = flaw
+never p NoAnswer at flaw = flaw
+never p ManyReadings at flaw = flaw
+never p NoForm at flaw = flaw
+
+pub never-refused : (p : Plan) (v : Fault) → Refused (file-of (p .draft)) v → ⊥
+never-refused p v (_, flaw) = never p (v .cause) (v .place) flaw
