@@ -3,6 +3,7 @@ mod Bytes
 mod Counts
 mod Files
 mod Forms
+mod Lowest
 mod Records
 mod Refusals
 mod Same

@@ -1,11 +1,13 @@
 -- The five rules of right marks, each at one house.
 use Prim.Native.Nat.{ℕ, zero, suc, _-_, _<_}
-use mathlib.Core.Bool.{true, cond}
-use mathlib.Core.List.{List}
+use mathlib.Core.Bool.{Bool, true, cond}
+use mathlib.Core.List.{List, [], _∷_}
 use mathlib.Core.Logic.{_⊎_}
 use mathlib.Core.Path.{_≡_}
 use lib.Dec.{eqb}
 use lib.ListN.{length, getD, take}
+use Rattle.std.specs.declared.option.Option.{Option}
+use Rattle.std.specs.declared.option.Option.the-variants.{Some, None}
 use Rattle.std.specs.shelf.Lists.{countBy}
 use Rattle.plan.specs.declared.drafts.Draft.{Draft}
 use Rattle.plan.specs.declared.lines.End.{End}
@@ -18,6 +20,10 @@ use Rattle.plan.specs.Lines.{blank, house-at, beyond, meets, serves}
 abbrev pub lines-of : Draft → List Line
 lines-of d = take (d .lines) (d .records)
 
+abbrev pub one-up : Option ℕ → Option ℕ
+one-up None = None
+one-up (Some i) = Some (suc i)
+
 -- how many lines of a tree serve a house: one each house but the head, and none the head
 abbrev pub due : ℕ → ℕ
 due h = cond (eqb h 0) 0 1
@@ -28,6 +34,11 @@ abbrev pub Leads : Way → List Line → ℕ → ℕ → Type 0
 Leads w xs zero h = h ≡ 0
 Leads w xs (suc s) h =
     (h ≡ 0) ⊎ ((i : ℕ) × (i < length xs) × (serves w h (getD xs i blank) ≡ true) × Leads w xs s (house-at (beyond w) (getD xs i blank)))
+
+-- the number of the lowest-numbered line that passes the test
+abbrev pub lowest : (Line → Bool) → List Line → Option ℕ
+lowest p [] = None
+lowest p (x ∷ xs) = cond (p x) (Some 0) (one-up (lowest p xs))
 
 -- no line of the tree serves the house
 abbrev pub No-server : Way → List Line → ℕ → Type 0

@@ -29,6 +29,7 @@ module _ (stop : ℕ) where
     where
       stopped : eqb x stop ≡ true → parts stop (x ∷ xs) ≡ (x ∷ xs) ∷ []
       stopped e = absurd (omega (arith, front-stop x xs e))
+
       on : parts stop xs ≡ xs ∷ [] → eqb x stop ≡ false → parts stop (x ∷ xs) ≡ (x ∷ xs) ∷ []
       on rest e = cond-false (eqb x stop) ([] ∷ parts stop xs) (onto x (parts stop xs)) e ∙ ap (onto x) rest
 
@@ -39,8 +40,10 @@ module _ (stop : ℕ) where
     where
       cut : ℕ → List (List ℕ)
       cut n = take n (x ∷ xs) ∷ parts stop (drop (n + 1) (x ∷ xs))
+
       stopped : eqb x stop ≡ true → parts stop (x ∷ xs) ≡ cut (front stop (x ∷ xs))
       stopped e = cond-true (eqb x stop) ([] ∷ parts stop xs) (onto x (parts stop xs)) e ∙ sym (ap cut (front-stop x xs e))
+
       on : parts stop xs ≡ take (front stop xs) xs ∷ parts stop (drop (front stop xs + 1) xs) → eqb x stop ≡ false → parts stop (x ∷ xs) ≡ cut (front stop (x ∷ xs))
       on rest e =
           let n = front stop xs in
@@ -51,7 +54,7 @@ module _ (stop : ℕ) where
           ∙ ap (λ k. (x ∷ take n xs) ∷ parts stop (drop k (x ∷ xs))) e₂
           ∙ ap cut (e₁ ∙ sym (front-on x xs e))
 
-  some-part : (xs : List ℕ) → (w : List ℕ) × (ws : List (List ℕ)) × (parts stop xs ≡ w ∷ ws)
+  pub some-part : (xs : List ℕ) → (w : List ℕ) × (ws : List (List ℕ)) × (parts stop xs ≡ w ∷ ws)
   some-part xs = ⊎-elim (λ lt. (_, _, parts-more xs lt)) (λ le. (_, _, parts-last xs le)) (cases-lt (front stop xs) (length xs))
 
 -- a text that is not empty has a first line, and the lines of what follows its end
@@ -61,13 +64,16 @@ lines-more xs some = ⊎-elim more last (cases-lt (front 10 xs) (length xs))
     ended-one : (w : List ℕ) → 0 < length w → ended (w ∷ []) ≡ w ∷ []
     ended-one [] h = absurd (omega arith)
     ended-one (x ∷ w) h = refl
+
     ended-more : (w : List ℕ) (ws : List (List ℕ)) (v : List ℕ) (vs : List (List ℕ)) → ws ≡ v ∷ vs → ended (w ∷ ws) ≡ w ∷ ended ws
     ended-more w ws v vs e = subst (λ us. ended (w ∷ us) ≡ w ∷ ended us) (sym e) refl
+
     last : length xs ≤ front 10 xs → lines xs ≡ take (front 10 xs) xs ∷ lines (drop (front 10 xs + 1) xs)
     last h =
         ap ended (parts-last 10 xs h)
         ∙ ended-one xs some
         ∙ ap₂ (λ w ys. w ∷ lines ys) (sym (take-all (front 10 xs) xs h)) (sym (drop-all (front 10 xs + 1) xs (omega arith)))
+
     more : front 10 xs < length xs → lines xs ≡ take (front 10 xs) xs ∷ lines (drop (front 10 xs + 1) xs)
     more h =
         let ys = drop (front 10 xs + 1) xs in

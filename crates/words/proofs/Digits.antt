@@ -7,8 +7,7 @@ use native.Mathlib.Omega.{arith}
 use lib.ListN.{length, getD, take}
 use Rattle.std.proofs.shelf.Elements.{all-getD}
 use Rattle.std.proofs.shelf.Lists.{joined-more}
-use Rattle.std.specs.shelf.Lists.{All}
-use Rattle.words.specs.Hex.{hex-digit, pair-of, hex-of}
+use Rattle.words.specs.Hex.{hex-digit, pair-of, hex-of, Bytes}
 
 hex-length : (bs : List ℕ) → length (hex-of bs) ≡ 2 * length bs
 hex-length [] = refl
@@ -32,9 +31,15 @@ hex-low (b ∷ bs) (suc i) h =
 abbrev pub No-digit : ℕ → Type 0
 No-digit x = (d : ℕ) → d < 16 → hex-digit d ≡ x → ⊥
 
-module _ (word : List ℕ) (bs : List ℕ) (small : All (λ b. b < 256) bs) (same : hex-of bs ≡ word) where
+pub hex-within : (word bs : List ℕ) → hex-of bs ≡ word → 2 * length bs ≡ length word
+hex-within word bs same = sym (hex-length bs) ∙ ap length same
+
+module _ (word : List ℕ) (bs : List ℕ) (bytes : Bytes word bs) where
   within : 2 * length bs ≡ length word
-  within = sym (hex-length bs) ∙ ap length same
+  within = hex-within word bs (bytes .2)
+
+  pub no-empty : length word ≡ 0 → ⊥
+  no-empty none = omega (arith, within, bytes .0)
 
   pub no-odd : (length word % 2 ≡ 0 → ⊥) → ⊥
   no-odd odd = odd (omega (arith, within))
@@ -42,13 +47,13 @@ module _ (word : List ℕ) (bs : List ℕ) (small : All (λ b. b < 256) bs) (sam
   pub no-high : (i : ℕ) → i < length word / 2 → No-digit (getD word (2 * i) 0) → ⊥
   no-high i h none =
       let here : i < length bs = omega (arith, within) in
-      let byte : getD bs i 0 < 256 = all-getD (λ b. b < 256) bs i 0 here small in
-      none (getD bs i 0 / 16) (omega arith) (sym (hex-high bs i here) ∙ ap (λ xs. getD xs (2 * i) 0) same)
+      let byte : getD bs i 0 < 256 = all-getD (λ b. b < 256) bs i 0 here (bytes .1) in
+      none (getD bs i 0 / 16) (omega arith) (sym (hex-high bs i here) ∙ ap (λ xs. getD xs (2 * i) 0) (bytes .2))
 
   pub no-low : (i : ℕ) → i < length word / 2 → No-digit (getD word (2 * i + 1) 0) → ⊥
   no-low i h none =
       let here : i < length bs = omega (arith, within) in
-      none (getD bs i 0 % 16) (omega arith) (sym (hex-low bs i here) ∙ ap (λ xs. getD xs (2 * i + 1) 0) same)
+      none (getD bs i 0 % 16) (omega arith) (sym (hex-low bs i here) ∙ ap (λ xs. getD xs (2 * i + 1) 0) (bytes .2))
 
 two : (xs : List ℕ) (a : ℕ) → a + 2 ≤ length xs → take (a + 2) xs ≡ take a xs ++ (getD xs a 0 ∷ getD xs (a + 1) 0 ∷ [])
 two [] zero h = absurd (omega arith)

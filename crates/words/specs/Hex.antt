@@ -4,6 +4,7 @@ use mathlib.Core.Bool.{cond}
 use mathlib.Core.List.{List, [], _∷_}
 use mathlib.Core.Path.{_≡_}
 use lib.Dec.{ltb}
+use lib.ListN.{length}
 use Rattle.std.specs.declared.option.Option.{Option}
 use Rattle.std.specs.declared.option.Option.the-variants.{Some, None}
 use Rattle.std.specs.declared.vec.Vec.{Vec}
@@ -22,7 +23,15 @@ pair-of b = hex-digit (b / 16) ∷ hex-digit (b % 16) ∷ []
 abbrev pub hex-of : List ℕ → List ℕ
 hex-of bs = joined pair-of bs
 
--- the bytes whose hexadecimal form the word is, or none where it is of no bytes
+-- the word is the hexadecimal form of these bytes, one at least
+abbrev pub Bytes : List ℕ → List ℕ → Type 0
+Bytes word bs = (0 < length bs) × All (λ b. b < 256) bs × (hex-of bs ≡ word)
+
+-- the word is the hexadecimal form of no bytes
+abbrev pub No-bytes : List ℕ → Type 0
+No-bytes word = (bs : List ℕ) → Bytes word bs → ⊥
+
+-- the bytes whose hexadecimal form the word is, or none where there are none
 abbrev pub Decoded : List ℕ → Option (Vec ℕ Global) → Type 0
-Decoded word (Some v) = All (λ b. b < 256) (vec-items v) × (hex-of (vec-items v) ≡ word)
-Decoded word None = (bs : List ℕ) → All (λ b. b < 256) bs → hex-of bs ≡ word → ⊥
+Decoded word (Some v) = Bytes word (vec-items v)
+Decoded word None = No-bytes word

@@ -19,10 +19,13 @@ fn digit(byte: u8) -> Option<u8>
     }
 }
 
-// The bytes that a word has in hexadecimal capitals, two digits each, or none where it has another form.
+// The bytes, one at least, that a word has in hexadecimal capitals, two digits each; none where it has another form.
 pub fn from_hex(heap: Global, word: &[u8]) -> Result<Option<Vec<u8>>, AllocError>
     ensures { λ r. ⌜ made r (λ o. Decoded (now (word .entry)) o) ⌝ }
 {
+    if word.len() == 0 {
+        return Ok(None);
+    }
     if word.len() % 2 != 0 {
         return Ok(None);
     }

@@ -1,11 +1,10 @@
 ghost use mathlib.Core.Path.{_≡_};
-ghost use mathlib.Core.List.{[]};
 ghost use Prim.Native.Nat.{_<_, _≤_};
 ghost use lib.ListN.{getD};
 ghost use Rattle.std.specs.Options.{Cases as BySome};
-ghost use Rattle.plan.specs.Lines.{blank};
+ghost use Rattle.plan.specs.Lines.{blank, serves};
 ghost use Rattle.plan.specs.Plans.{One-house};
-ghost use Rattle.plan.specs.Rules.{lines-of, First-server, No-server};
+ghost use Rattle.plan.specs.Rules.{lines-of, lowest};
 use crate::drafts::Draft;
 use crate::lines::Line;
 use crate::lines::Way;
@@ -71,9 +70,10 @@ impl Plan {
         }
     }
 
-    // The number of the direct line that enters the house, or of the back line that leaves it.
+    // The number of the direct line that enters the house, or of the back line that leaves it; none for the head, and
+    // none beyond the plan.
     pub fn server(&self, way: Way, house: usize) -> Option<usize>
-        ensures { λ r. ⌜ BySome r (No-server way (lines-of (now (self .entry) .draft)) house) (First-server way (lines-of (now (self .entry) .draft)) house) ⌝ }
+        ensures { λ r. ⌜ r ≡ lowest (serves way house) (lines-of (now (self .entry) .draft)) ⌝ }
     {
         server(self.draft.list(), way, house)
     }

@@ -1,8 +1,8 @@
 ghost use mathlib.Core.Path.{_≡_};
-ghost use mathlib.Core.Bool.{true, false};
 ghost use Prim.Native.Nat.{ℕ, _<_, _≤_, _-_};
 ghost use lib.ListN.{length, getD};
 ghost use Rattle.std.specs.shelf.Lists.{countBy};
+ghost use Rattle.std.specs.Orderings.{When};
 ghost use Rattle.std.specs.Options.{Cases as BySome};
 ghost use Rattle.plan.specs.Lines.{blank, meets, serves, In-form};
 ghost use Rattle.plan.specs.Rules.{lines-of, due, Leads, First-server, No-server, Keeps};
@@ -45,7 +45,7 @@ fn leads(lines: &[Line], way: Way, houses: usize, house: usize) -> bool
     requires within { ⌜ house < houses ⌝ }
     requires form { ⌜ ((i : ℕ) → i < length (now lines) → In-form houses (getD (now lines) i blank)) ⌝ }
     requires single { ⌜ ((h : ℕ) → h < houses → countBy (serves way h) (now lines) ≡ due h) ⌝ }
-    ensures { λ r. ⌜ elim r [ true ↦ Leads way (now (lines .entry)) (houses - 1) house | false ↦ (Leads way (now (lines .entry)) (houses - 1) house → ⊥) ] ⌝ }
+    ensures { λ r. ⌜ When r (Leads way (now (lines .entry)) (houses - 1) house) (Leads way (now (lines .entry)) (houses - 1) house → ⊥) ⌝ }
 {
     let mut at = house;
     for step in 1..houses {
@@ -79,7 +79,7 @@ impl Draft {
     fn keeps(&self, rule: Rule, house: usize) -> bool
         requires within { ⌜ house < now self .houses ⌝ }
         requires ready { ⌜ Ready rule (now self) ⌝ }
-        ensures { λ r. ⌜ elim r [ true ↦ Keeps rule (now (self .entry)) house | false ↦ (Keeps rule (now (self .entry)) house → ⊥) ] ⌝ }
+        ensures { λ r. ⌜ When r (Keeps rule (now (self .entry)) house) (Keeps rule (now (self .entry)) house → ⊥) ⌝ }
     {
         let lines = self.list();
         match rule {
