@@ -6,9 +6,9 @@ use lib.ListN.{getD}
 use Rattle.std.specs.Written.{decimal}
 use Rattle.std.specs.declared.option.Option.{Option}
 use Rattle.std.specs.declared.option.Option.the-variants.{Some, None}
-use Rattle.plan.specs.declared.lines.Way.{Way}
+use Rattle.lines.specs.declared.lines.Way.{Way}
 use Rattle.plan.specs.declared.plans.Plan.{Plan}
-use Rattle.plan.specs.Lines.{serves}
+use Rattle.lines.specs.Lines.{serves}
 use Rattle.plan.specs.Rules.{lines-of, lowest}
 
 -- a line's number, or a dash where there is none

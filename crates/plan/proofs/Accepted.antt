@@ -12,7 +12,7 @@ use Rattle.plan.specs.declared.drafts.Draft.{Draft}
 use Rattle.plan.specs.declared.plans.Plan.{Plan}
 use Rattle.plan.specs.Files.{file-of, houses-in, lines-in, Right-record, Wrong-record, First-wrong, Misjudged-file, Flaw, Refused}
 use Rattle.plan.specs.Judged.{Breaks}
-use Rattle.plan.specs.Lines.{blank}
+use Rattle.lines.specs.Lines.{blank}
 use Rattle.plan.proofs.Bytes.{lines-are, record-of-line, one-draft}
 use Rattle.plan.proofs.Files.{file-length}
 use Rattle.plan.proofs.Records.{right}

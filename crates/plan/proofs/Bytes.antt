@@ -9,10 +9,10 @@ use Rattle.std.proofs.shelf.Tests.{cases-lt}
 use Rattle.std.specs.shelf.Lists.{joined}
 use mathlib.Core.Logic.{_⊎_, inl, inr, ⊎-elim}
 use Rattle.plan.specs.declared.drafts.Draft.{Draft}
-use Rattle.plan.specs.declared.lines.Line.{Line}
-use Rattle.plan.specs.declared.lines.Marks.{Marks}
+use Rattle.lines.specs.declared.lines.Line.{Line}
+use Rattle.lines.specs.declared.lines.Marks.{Marks}
 use Rattle.plan.specs.Files.{byte, record-of, file-of, houses-in, lines-in, capacity-in}
-use Rattle.plan.specs.Lines.{blank, marks-number}
+use Rattle.lines.specs.Lines.{blank, marks-number}
 use Rattle.plan.specs.Readers.{Record-at}
 use Rattle.plan.specs.Rules.{lines-of}
 use Rattle.plan.proofs.Files.{records-length}

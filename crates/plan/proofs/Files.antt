@@ -10,9 +10,9 @@ use Rattle.std.proofs.shelf.Lists.{getD-drop, getD-past, getD-take, take-rest, 
 use Rattle.std.specs.shelf.Lists.{joined}
 use borrow.Rule.Slice.PartMut.{putMid}
 use Rattle.plan.specs.declared.drafts.Draft.{Draft}
-use Rattle.plan.specs.declared.lines.Line.{Line}
+use Rattle.lines.specs.declared.lines.Line.{Line}
 use Rattle.plan.specs.Files.{byte, mark, header, record-of, file-of, houses-in, lines-in, capacity-in, Versioned, Sized}
-use Rattle.plan.specs.Lines.{blank, In-form}
+use Rattle.lines.specs.Lines.{blank, In-form}
 use Rattle.plan.specs.Readers.{Record-at, Records}
 use Rattle.plan.specs.Rules.{lines-of}
 use Rattle.plan.proofs.Forms.{length-lines}

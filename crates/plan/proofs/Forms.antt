@@ -5,7 +5,7 @@ use native.Mathlib.Omega.{arith}
 use lib.ListN.{length, getD}
 use Rattle.std.proofs.shelf.Lists.{length-take-le, getD-take}
 use Rattle.plan.specs.declared.drafts.Draft.{Draft}
-use Rattle.plan.specs.Lines.{blank, In-form}
+use Rattle.lines.specs.Lines.{blank, In-form}
 use Rattle.plan.specs.Rules.{lines-of}
 
 module _ (d : Draft) where

@@ -10,9 +10,9 @@ use Rattle.std.proofs.shelf.Tests.{cases-bool, cond-true, cond-false}
 use Rattle.std.specs.Options.{Cases}
 use Rattle.std.specs.declared.option.Option.{Option}
 use Rattle.std.specs.declared.option.Option.the-variants.{Some, None}
-use Rattle.plan.specs.declared.lines.Line.{Line}
-use Rattle.plan.specs.declared.lines.Way.{Way}
-use Rattle.plan.specs.Lines.{blank, serves}
+use Rattle.lines.specs.declared.lines.Line.{Line}
+use Rattle.lines.specs.declared.lines.Way.{Way}
+use Rattle.lines.specs.Lines.{blank, serves}
 use Rattle.plan.specs.Rules.{lowest, one-up, First-server, No-server}
 
 module _ (p : Line → Bool) where

@@ -8,10 +8,10 @@ use native.Mathlib.Omega.{arith}
 use borrow.Author.Count.{below-more}
 use lib.ListN.{length, getD, set, take, drop, replicate}
 use Rattle.std.proofs.shelf.Lists.{getD-take, getD-drop, getD-set-same, getD-set-other}
-use Rattle.plan.specs.declared.lines.Line.{Line}
-use Rattle.plan.specs.declared.lines.Marks.{Marks}
+use Rattle.lines.specs.declared.lines.Line.{Line}
+use Rattle.lines.specs.declared.lines.Marks.{Marks}
 use Rattle.plan.specs.Files.{byte, Right-record, Wrong-record}
-use Rattle.plan.specs.Lines.{blank, marks-number, In-form}
+use Rattle.lines.specs.Lines.{blank, marks-number, In-form}
 use Rattle.plan.specs.Readers.{Record-at, Records}
 
 pub all-alike : {X : Type 0} (x : X) (n i : ℕ) → getD (replicate n x) i x ≡ x

@@ -7,7 +7,7 @@ use Rattle.fault.specs.declared.faults.Fault.{Fault}
 use Rattle.fault.specs.Layers.{fault-at}
 use Rattle.fault.specs.Numbers.{number}
 use Rattle.plan.specs.declared.drafts.Draft.{Draft}
-use Rattle.plan.specs.declared.lines.Way.{Way}
+use Rattle.lines.specs.declared.lines.Way.{Way}
 use Rattle.plan.specs.declared.rules.Rule.{Rule}
 use Rattle.plan.specs.Causes.{cause-of}
 use Rattle.plan.specs.Files.{file-of, Flaw, Refused}

@@ -4,11 +4,11 @@ use mathlib.Core.HLevel.{isProp→PathP}
 use mathlib.Core.Path.{_≡_}
 use denote.Struct.Props.{props}
 use lib.ListN.{length, getD}
-use Rattle.plan.specs.contracts.lines.Line as line
+use Rattle.lines.specs.contracts.lines.Line as line
 use Rattle.plan.specs.declared.drafts.Draft.{Draft}
 use Rattle.plan.specs.declared.plans.Plan.{Plan}
 use Rattle.plan.specs.declared.rules.Rule.{Rule}
-use Rattle.plan.specs.Lines.{blank, In-form}
+use Rattle.lines.specs.Lines.{blank, In-form}
 use Rattle.plan.specs.Rules.{Keeps}
 
 pub same-draft : (x y : Draft) → x .houses ≡ y .houses → x .lines ≡ y .lines → x .capacity ≡ y .capacity → x .records ≡ y .records → x .counters ≡ y .counters → x ≡ y

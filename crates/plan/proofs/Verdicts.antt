@@ -7,12 +7,12 @@ use lib.ListN.{getD, take}
 use Rattle.std.specs.shelf.Lists.{countBy}
 use Rattle.fault.specs.Numbers.{number}
 use Rattle.plan.specs.declared.drafts.Draft.{Draft}
-use Rattle.plan.specs.declared.lines.End.{End}
-use Rattle.plan.specs.declared.lines.Way.{Way}
+use Rattle.lines.specs.declared.lines.End.{End}
+use Rattle.lines.specs.declared.lines.Way.{Way}
 use Rattle.plan.specs.declared.rules.Rule.{Rule}
 use Rattle.plan.specs.Causes.{cause-of}
 use Rattle.plan.specs.Judged.{Kept}
-use Rattle.plan.specs.Lines.{meets, serves}
+use Rattle.lines.specs.Lines.{meets, serves}
 use Rattle.plan.specs.Rules.{lines-of, Keeps}
 use Rattle.plan.proofs.Ways.{head-leads}
 

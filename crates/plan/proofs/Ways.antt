@@ -7,9 +7,9 @@ use mathlib.Core.Path.{_≡_, refl, sym, _∙_, ap, subst}
 use native.Mathlib.Omega.{arith}
 use lib.ListN.{length, getD}
 use Rattle.std.specs.shelf.Lists.{countBy}
-use Rattle.plan.specs.declared.lines.Line.{Line}
-use Rattle.plan.specs.declared.lines.Way.{Way}
-use Rattle.plan.specs.Lines.{blank, house-at, beyond, serves, In-form}
+use Rattle.lines.specs.declared.lines.Line.{Line}
+use Rattle.lines.specs.declared.lines.Way.{Way}
+use Rattle.lines.specs.Lines.{blank, house-at, beyond, serves, In-form}
 use Rattle.plan.specs.Rules.{Leads, First-server, No-server}
 use Rattle.plan.proofs.Counts.{sole}
 

@@ -1,7 +1,7 @@
 -- The cause of a refusal by each rule of right marks.
 use Rattle.fault.specs.declared.causes.Cause.{Cause}
 use Rattle.fault.specs.declared.causes.Cause.the-variants.{DirectIn, DirectWay, BackOut, BackWay, WrongCounter}
-use Rattle.plan.specs.declared.lines.Way.{Way}
+use Rattle.lines.specs.declared.lines.Way.{Way}
 use Rattle.plan.specs.declared.rules.Rule.{Rule}
 
 abbrev pub cause-of : Rule → Cause

@@ -10,9 +10,9 @@ use Rattle.fault.specs.declared.causes.Cause.the-variants.{FileShort, WrongMark
 use Rattle.fault.specs.declared.faults.Fault.{Fault}
 use Rattle.fault.specs.Layers.{fault-at}
 use Rattle.plan.specs.declared.drafts.Draft.{Draft}
-use Rattle.plan.specs.declared.lines.Line.{Line}
+use Rattle.lines.specs.declared.lines.Line.{Line}
 use Rattle.plan.specs.Judged.{Misjudged}
-use Rattle.plan.specs.Lines.{marks-number}
+use Rattle.lines.specs.Lines.{marks-number}
 use Rattle.plan.specs.Rules.{lines-of}
 
 -- THE FORMAT

@@ -1,4 +1,3 @@
-pub mod Lines
 pub mod Causes
 pub mod Rules
 pub mod Judged

@@ -3,7 +3,7 @@ use mathlib.Core.List.{[]}
 use mathlib.Core.Path.{_≡_}
 use lib.ListN.{replicate}
 use Rattle.plan.specs.declared.plans.Plan.{Plan}
-use Rattle.plan.specs.Lines.{blank}
+use Rattle.lines.specs.Lines.{blank}
 
 abbrev pub One-house : Plan → Type 0
 One-house p =

@@ -11,10 +11,10 @@ use Rattle.fault.specs.Layers.{fault-at}
 use Rattle.fault.specs.Numbers.{number}
 use Rattle.plan.specs.declared.drafts.Draft.{Draft}
 use Rattle.plan.specs.declared.form.Size.{Size}
-use Rattle.plan.specs.declared.lines.Line.{Line}
+use Rattle.lines.specs.declared.lines.Line.{Line}
 use Rattle.plan.specs.declared.plans.Plan.{Plan}
 use Rattle.plan.specs.Files.{byte, houses-in, lines-in, capacity-in, file-of, In-limits, Versioned, Limited, Sized, Beyond, First-wrong, Refused, Wrong-record}
-use Rattle.plan.specs.Lines.{blank, marks-number, In-form}
+use Rattle.lines.specs.Lines.{blank, marks-number, In-form}
 
 -- n, m and k checked: the first that is beyond its limits is named by the place of its byte
 abbrev pub Limits-checked : ℕ → ℕ → ℕ → Result (Unit {0}) Fault → Type 0

@@ -10,11 +10,11 @@ use Rattle.std.specs.declared.option.Option.{Option}
 use Rattle.std.specs.declared.option.Option.the-variants.{Some, None}
 use Rattle.std.specs.shelf.Lists.{countBy}
 use Rattle.plan.specs.declared.drafts.Draft.{Draft}
-use Rattle.plan.specs.declared.lines.End.{End}
-use Rattle.plan.specs.declared.lines.Line.{Line}
-use Rattle.plan.specs.declared.lines.Way.{Way}
+use Rattle.lines.specs.declared.lines.End.{End}
+use Rattle.lines.specs.declared.lines.Line.{Line}
+use Rattle.lines.specs.declared.lines.Way.{Way}
 use Rattle.plan.specs.declared.rules.Rule.{Rule}
-use Rattle.plan.specs.Lines.{blank, house-at, beyond, meets, serves}
+use Rattle.lines.specs.Lines.{blank, house-at, beyond, meets, serves}
 
 -- the lines of a draft, in the order of their numbers
 abbrev pub lines-of : Draft → List Line

@@ -1,8 +1,8 @@
 ghost use mathlib.Core.Path.{_≡_};
 ghost use Prim.Native.Nat.{ℕ, _<_, _≤_};
 ghost use lib.ListN.{length, getD};
-ghost use Rattle.plan.specs.Lines.{blank, In-form};
-use crate::lines::Line;
+ghost use Rattle.lines.specs.Lines.{blank, In-form};
+use lines::Line;
 
 // A plan in form whose marks and counters nobody has judged: n houses, m lines, the capacity k, a record for each
 // line and a counter for each house. What lies beyond the lines and the houses is blank.

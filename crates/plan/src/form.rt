@@ -4,10 +4,10 @@ ghost use mathlib.Core.List.{_++_};
 ghost use lib.ListN.{length, replicate};
 ghost use Rattle.plan.specs.Readers.{Limits-checked, Read-header, Read-record, Read-records, Formed};
 use crate::drafts::Draft;
-use crate::lines::Line;
-use crate::lines::Marks;
 use fault::Cause;
 use fault::Fault;
+use lines::Line;
+use lines::Marks;
 
 // The numbers of a file's header: n, m and k.
 #[derive(Clone, Copy)]

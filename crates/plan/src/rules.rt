@@ -1,7 +1,7 @@
 ghost use mathlib.Core.Path.{_≡_};
 ghost use Rattle.plan.specs.Causes.{cause-of};
-use crate::lines::Way;
 use fault::Cause;
+use lines::Way;
 
 // The five rules of right marks: each way has two, and the counters have one.
 #[derive(Clone, Copy)]

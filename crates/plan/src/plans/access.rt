@@ -2,14 +2,14 @@ ghost use mathlib.Core.Path.{_≡_};
 ghost use Prim.Native.Nat.{_<_, _≤_};
 ghost use lib.ListN.{getD};
 ghost use Rattle.std.specs.Options.{Cases as BySome};
-ghost use Rattle.plan.specs.Lines.{blank, serves};
+ghost use Rattle.lines.specs.Lines.{blank, serves};
 ghost use Rattle.plan.specs.Plans.{One-house};
 ghost use Rattle.plan.specs.Rules.{lines-of, lowest};
 use crate::drafts::Draft;
-use crate::lines::Line;
-use crate::lines::Way;
 use crate::plans::Plan;
 use crate::plans::judge::server;
+use lines::Line;
+use lines::Way;
 
 impl Plan {
     // A plan place as it starts: one house, no line, capacity 1.

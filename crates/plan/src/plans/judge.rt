@@ -4,16 +4,16 @@ ghost use lib.ListN.{length, getD};
 ghost use Rattle.std.specs.shelf.Lists.{countBy};
 ghost use Rattle.std.specs.Orderings.{When};
 ghost use Rattle.std.specs.Options.{Cases as BySome};
-ghost use Rattle.plan.specs.Lines.{blank, meets, serves, In-form};
+ghost use Rattle.lines.specs.Lines.{blank, meets, serves, In-form};
 ghost use Rattle.plan.specs.Rules.{lines-of, due, Leads, First-server, No-server, Keeps};
 ghost use Rattle.plan.specs.Judged.{Ready, Checked, Judged};
 use crate::drafts::Draft;
-use crate::lines::End;
-use crate::lines::Line;
-use crate::lines::Way;
 use crate::plans::Plan;
 use crate::rules::Rule;
 use fault::Fault;
+use lines::End;
+use lines::Line;
+use lines::Way;
 
 // How many lines of the tree have the house at that end.
 fn count(lines: &[Line], way: Way, end: End, house: usize) -> usize

@@ -5,10 +5,10 @@ ghost use Rattle.std.specs.shelf.Lists.{joined};
 ghost use Rattle.plan.specs.Files.{header, record-of};
 ghost use Rattle.plan.specs.Writers.{Written};
 use crate::drafts::Draft;
-use crate::lines::Line;
 use crate::plans::Plan;
 use fault::Cause;
 use fault::Fault;
+use lines::Line;
 
 // The three bytes of a line.
 fn record_bytes(line: Line) -> [u8; 3]

@@ -6,7 +6,7 @@ use Rattle.fault.specs.declared.causes.Cause.the-variants.{WrongRecord}
 use Rattle.fault.specs.Layers.{fault-at}
 use Rattle.std.proofs.shelf.Lists.{length-set}
 use Rattle.std.proofs.shelf.Results.{err-from-errBy}
-use Rattle.plan.specs.Lines.{blank}
+use Rattle.lines.specs.Lines.{blank}
 use Rattle.plan.proofs.Records.{all-alike, record-cut, wrong-cut, right, records-more, spare-more}
 use Rattle.plan.proofs.form.read_records.Needs as need
 

@@ -1,7 +1,7 @@
 use Prim.Native.Nat.{ℕ, _<_, _≤_}
 use mathlib.Core.Path.{_≡_}
 use lib.ListN.{length, getD}
-use Rattle.plan.specs.Lines.{blank}
+use Rattle.lines.specs.Lines.{blank}
 use Rattle.plan.specs.Readers.{Records}
 use Rattle.plan.proofs.form.read_records.Given as given
 

@@ -2,7 +2,7 @@ use borrow.Author.Needs.{needs}
 use mathlib.Core.Path.{refl}
 use native.Mathlib.Omega.{arith}
 use Rattle.std.proofs.shelf.Results.{err-from-errBy}
-use Rattle.plan.specs.declared.lines.Way.{Way}
+use Rattle.lines.specs.declared.lines.Way.{Way}
 use Rattle.plan.specs.declared.rules.Rule.{Rule}
 use Rattle.plan.proofs.Verdicts.{every, below-7, below-8, below-9, below-10, below-11}
 use Rattle.plan.proofs.drafts.Draft.judge.Needs as need

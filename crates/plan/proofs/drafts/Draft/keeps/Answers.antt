@@ -3,9 +3,9 @@ use mathlib.Core.List.{List}
 use mathlib.Core.Path.{_≡_, sym, subst}
 use lib.ListN.{length, getD}
 use Rattle.std.specs.shelf.Lists.{countBy}
-use Rattle.plan.specs.declared.lines.Line.{Line}
+use Rattle.lines.specs.declared.lines.Line.{Line}
 use Rattle.plan.specs.Judged.{Ready}
-use Rattle.plan.specs.Lines.{blank, serves, In-form}
+use Rattle.lines.specs.Lines.{blank, serves, In-form}
 use Rattle.plan.specs.Rules.{due}
 use Rattle.plan.proofs.Forms.{form-of}
 use Rattle.plan.proofs.drafts.Draft.keeps.Needs as need

@@ -1,7 +1,7 @@
 use Prim.Native.Nat.{ℕ, _<_}
 use mathlib.Core.Path.{_≡_, refl, sym, subst}
 use native.Mathlib.Omega.{arith}
-use Rattle.plan.specs.Lines.{blank}
+use Rattle.lines.specs.Lines.{blank}
 use Rattle.plan.proofs.Records.{all-alike}
 use Rattle.plan.proofs.Verdicts.{alone}
 use Rattle.plan.proofs.plans.Plan.new.Needs as need

@@ -1,5 +1,5 @@
 use mathlib.Core.Path.{_∙_, ap}
-use Rattle.plan.specs.Lines.{serves}
+use Rattle.lines.specs.Lines.{serves}
 use Rattle.plan.specs.Rules.{lowest}
 use Rattle.plan.proofs.Lowest.{lowest-is}
 use Rattle.plan.proofs.plans.Plan.server.Needs as need

@@ -3,7 +3,7 @@ use native.Mathlib.Omega.{arith}
 use Rattle.std.proofs.shelf.Lists.{take-all}
 use Rattle.std.proofs.shelf.Sums.{countBy-more-yes, countBy-more-no}
 use Rattle.std.specs.shelf.Lists.{countBy}
-use Rattle.plan.specs.Lines.{meets, blank}
+use Rattle.lines.specs.Lines.{meets, blank}
 use Rattle.plan.proofs.plans.judge.count.Needs as need
 use Rattle.plan.proofs.plans.judge.count.Needs.{then-meets, else-meets}
 

@@ -2,7 +2,7 @@ use mathlib.Core.Path.{_≡_}
 use Prim.Native.Nat.{_≤_}
 use lib.ListN.{take}
 use Rattle.std.specs.shelf.Lists.{countBy}
-use Rattle.plan.specs.Lines.{meets}
+use Rattle.lines.specs.Lines.{meets}
 use Rattle.plan.proofs.plans.judge.count.Given as given
 
 abbrev pub Inv-loop-line : given.InvT-loop-line

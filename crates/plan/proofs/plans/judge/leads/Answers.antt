@@ -6,7 +6,7 @@ use lib.Dec.{eqb}
 use lib.ListN.{getD}
 use Rattle.std.proofs.shelf.Tests.{cond-both}
 use Rattle.std.specs.shelf.Lists.{countBy}
-use Rattle.plan.specs.Lines.{blank, house-at, beyond, serves}
+use Rattle.lines.specs.Lines.{blank, house-at, beyond, serves}
 use Rattle.plan.specs.Rules.{Leads, due}
 use Rattle.plan.proofs.Ways.{end-below, head-leads, leads-by, leads-on, leads-none}
 use Rattle.plan.proofs.plans.judge.leads.Needs as need

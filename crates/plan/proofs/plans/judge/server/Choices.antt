@@ -2,7 +2,7 @@ use mathlib.Core.Bool.{true}
 use mathlib.Core.Path.{_≡_}
 use Prim.Native.Nat.{ℕ, _<_}
 use lib.ListN.{getD}
-use Rattle.plan.specs.Lines.{blank, serves}
+use Rattle.lines.specs.Lines.{blank, serves}
 use Rattle.plan.proofs.plans.judge.server.Given as given
 
 abbrev pub Inv-loop-i : given.InvT-loop-i

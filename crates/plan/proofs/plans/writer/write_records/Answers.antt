@@ -7,7 +7,7 @@ use Rattle.std.proofs.shelf.Lists.{take-all, take-more, joined-more}
 use Rattle.std.proofs.shelf.Parts.{take-putMid}
 use Rattle.std.specs.shelf.Lists.{joined}
 use Rattle.plan.specs.Files.{record-of}
-use Rattle.plan.specs.Lines.{blank}
+use Rattle.lines.specs.Lines.{blank}
 use Rattle.plan.proofs.plans.writer.write_records.Needs as need
 
 pub loop-i-again : need.loop-i-again

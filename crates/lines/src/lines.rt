@@ -1,7 +1,7 @@
 ghost use mathlib.Core.Path.{_≡_};
 ghost use Prim.Native.Nat.{_<_};
 ghost use Rattle.std.specs.Options.{Cases as BySome};
-ghost use Rattle.plan.specs.Lines.{marks-number, marked, near, beyond, house-at, meets};
+ghost use Rattle.lines.specs.Lines.{marks-number, marked, near, beyond, house-at, meets};
 
 // How a line is marked, with the number that a file has for it.
 #[derive(Clone, Copy, PartialEq, Eq, Debug)]

@@ -4,10 +4,10 @@ use mathlib.Core.Bool.{Bool, true, false, _&&_}
 use mathlib.Core.Path.{_≡_}
 use mathlib.Core.Logic.{_≢_}
 use lib.Dec.{eqb}
-use Rattle.plan.specs.declared.lines.End.{End}
-use Rattle.plan.specs.declared.lines.Line.{Line}
-use Rattle.plan.specs.declared.lines.Marks.{Marks}
-use Rattle.plan.specs.declared.lines.Way.{Way}
+use Rattle.lines.specs.declared.lines.End.{End}
+use Rattle.lines.specs.declared.lines.Line.{Line}
+use Rattle.lines.specs.declared.lines.Marks.{Marks}
+use Rattle.lines.specs.declared.lines.Way.{Way}
 
 -- the number that a file has for the marks
 abbrev pub marks-number : Marks → ℕ
