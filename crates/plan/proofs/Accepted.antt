@@ -1,10 +1,13 @@
 -- The file of a plan is never refused.
 use Prim.Native.Nat.{ℕ, zero, suc, _+_, _*_, _<_}
+use mathlib.Core.List.{List}
 use mathlib.Core.Logic.{inl, inr, ∥∥₁-elim}
-use mathlib.Core.Path.{_≡_, refl, _∙_, subst}
+use mathlib.Core.Path.{_≡_, refl, _∙_, ap, subst}
 use native.Mathlib.Omega.{arith}
 use std.HLevel.{⊥-prop}
 use lib.ListN.{length, getD, drop}
+use Rattle.std.specs.declared.result.Result.{Result}
+use Rattle.std.specs.declared.result.Result.the-variants.{Ok, Err}
 use Rattle.fault.specs.declared.causes.Cause.{Cause}
 use Rattle.fault.specs.declared.causes.Cause.the-variants.{FileShort, WrongMark, WrongVersion, BeyondLimits, WrongLength, WrongRecord, DirectIn, DirectWay, BackOut, BackWay, WrongCounter, NoWayFromHead, NoWayToHead, BufferShort, Unfit, NoLine, NothingWaits, LineFull, LineEmpty, NoHouse, WrongReading, RoundOpen, NoRound, NoAnswer, ManyReadings, NoForm}
 use Rattle.fault.specs.declared.faults.Fault.{Fault}
@@ -13,9 +16,11 @@ use Rattle.plan.specs.declared.plans.Plan.{Plan}
 use Rattle.plan.specs.Files.{file-of, houses-in, lines-in, Right-record, Wrong-record, First-wrong, Misjudged-file, Flaw, Refused}
 use Rattle.plan.specs.Judged.{Breaks}
 use Rattle.lines.specs.Lines.{blank}
+use Rattle.plan.specs.Readers.{Read-plan}
 use Rattle.plan.proofs.Bytes.{lines-are, record-of-line, one-draft}
 use Rattle.plan.proofs.Files.{file-length}
 use Rattle.plan.proofs.Records.{right}
+use Rattle.plan.proofs.Same.{same-plan}
 
 not-both : (n a b c j : ℕ) → Right-record n a b c → Wrong-record n a b c j → ⊥
 not-both n a b c zero ok wrong = omega arith
@@ -80,3 +85,8 @@ never p NoForm at flaw = flaw
 
 pub never-refused : (p : Plan) (v : Fault) → Refused (file-of (p .draft)) v → ⊥
 never-refused p v (_, flaw) = never p (v .cause) (v .place) flaw
+
+-- the file of a plan gives that plan
+pub read-own : (f : List ℕ) (r : Result Plan Fault) → Read-plan f r → (p : Plan) → f ≡ file-of (p .draft) → r ≡ Ok p
+read-own f (Ok q) reads p same = ap Ok (same-plan q p (one-draft (q .draft) (p .draft) (reads ∙ same)))
+read-own f (Err v) refused p same = absurd (never-refused p v (subst (λ g. Refused g v) same refused))

@@ -50,6 +50,11 @@ abbrev pub Formed : List ℕ → Result Draft Fault → Type 0
 Formed f (Ok d) = file-of d ≡ f
 Formed f (Err v) = (number (v .cause) ≤ 6) × Refused f v
 
+-- the plan whose file it is, or the refusal of the file
+abbrev pub Read-plan : List ℕ → Result Plan Fault → Type 0
+Read-plan f (Ok p) = file-of (p .draft) ≡ f
+Read-plan f (Err v) = Refused f v
+
 -- the reader: the place holds the plan whose file it is, or the file is refused and the place is as it was
 abbrev pub Read : List ℕ → Plan → Result (Unit {0}) Fault → Plan → Type 0
 Read f p (Ok _) q = file-of (q .draft) ≡ f

@@ -52,7 +52,7 @@ impl Plan {
     pub fn line(&self, line: usize) -> Option<Line>
         ensures { λ r. ⌜ BySome r (now (self .entry) .draft .lines ≤ line) (λ x. (line < now (self .entry) .draft .lines) × (x ≡ getD (now (self .entry) .draft .records) line blank)) ⌝ }
     {
-        if line < self.draft.lines {
+        if line < self.lines() {
             Some(self.draft.records[line])
         } else {
             None
@@ -63,7 +63,7 @@ impl Plan {
     pub fn counter(&self, house: usize) -> Option<u8>
         ensures { λ r. ⌜ BySome r (now (self .entry) .draft .houses ≤ house) (λ x. (house < now (self .entry) .draft .houses) × (x ≡ getD (now (self .entry) .draft .counters) house 0)) ⌝ }
     {
-        if house < self.draft.houses {
+        if house < self.houses() {
             Some(self.draft.counters[house])
         } else {
             None

@@ -1,8 +1,9 @@
 ghost use mathlib.Core.Path.{_≡_};
 ghost use Prim.Native.Nat.{_*_, _≤_};
-ghost use lib.ListN.{length};
+ghost use lib.ListN.{length, take};
+ghost use Rattle.std.specs.Vec.{made};
 ghost use Rattle.std.specs.shelf.Lists.{joined};
-ghost use Rattle.plan.specs.Files.{header, record-of};
+ghost use Rattle.plan.specs.Files.{file-of, header, record-of};
 ghost use Rattle.plan.specs.Writers.{Written};
 use crate::drafts::Draft;
 use crate::plans::Plan;
@@ -53,7 +54,8 @@ impl Plan {
     // Fills the front of the buffer with the plan's file and answers its length; the rest is untouched. Refuses a
     // buffer that is too short, and then writes nothing.
     pub fn write(&self, buffer: &mut [u8]) -> Result<usize, Fault>
-        ensures { λ r. ⌜ Written (now (self .entry)) (now (buffer .entry)) r (now (buffer .exit)) ⌝ }
+        ensures wrote { λ r. ⌜ Written (now (self .entry)) (now (buffer .entry)) r (now (buffer .exit)) ⌝ }
+        ensures front { λ r. ⌜ made r (λ n. take n (now (buffer .exit)) ≡ file-of (now (self .entry) .draft)) ⌝ }
     {
         let draft = &self.draft;
         let end = 9 + 3 * draft.lines;
