@@ -7,5 +7,7 @@ mod Lowest
 mod Records
 mod Refusals
 mod Same
+mod Spanning
+mod Trees
 mod Verdicts
 mod Ways

@@ -1,6 +1,7 @@
 pub mod Causes
 pub mod Rules
 pub mod Judged
+pub mod Trees
 pub mod Files
 pub mod Readers
 pub mod Writers

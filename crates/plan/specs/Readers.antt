@@ -1,8 +1,10 @@
 -- What the readers of a plan file answer.
 use Prim.Native.Nat.{ℕ, _+_, _*_, _<_, _≤_}
+use mathlib.Core.Bool.{Bool}
 use mathlib.Core.List.{List}
 use mathlib.Core.Path.{_≡_}
 use lib.ListN.{length, getD}
+use Rattle.std.specs.Orderings.{Decides}
 use Rattle.std.specs.declared.result.Result.{Result}
 use Rattle.std.specs.declared.result.Result.the-variants.{Ok, Err}
 use Rattle.fault.specs.declared.causes.Cause.the-variants.{BeyondLimits, WrongRecord}
@@ -13,6 +15,7 @@ use Rattle.plan.specs.declared.drafts.Draft.{Draft}
 use Rattle.plan.specs.declared.form.Size.{Size}
 use Rattle.lines.specs.declared.lines.Line.{Line}
 use Rattle.plan.specs.declared.plans.Plan.{Plan}
+use Rattle.plan.specs.Trees.{Two-trees}
 use Rattle.plan.specs.Files.{byte, houses-in, lines-in, capacity-in, file-of, In-limits, Versioned, Limited, Sized, Beyond, First-wrong, Refused, Wrong-record}
 use Rattle.lines.specs.Lines.{blank, marks-number, In-form}
 
@@ -59,3 +62,14 @@ Read-plan f (Err v) = Refused f v
 abbrev pub Read : List ℕ → Plan → Result (Unit {0}) Fault → Plan → Type 0
 Read f p (Ok _) q = file-of (q .draft) ≡ f
 Read f p (Err v) q = Refused f v × (q ≡ p)
+
+-- the file of a plan is never refused, and gives that plan
+abbrev pub Own-plan : List ℕ → Result Plan Fault → Type 0
+Own-plan f r = (p : Plan) → f ≡ file-of (p .draft) → r ≡ Ok p
+
+abbrev pub Own : List ℕ → Result (Unit {0}) Fault → Plan → Type 0
+Own f r q = (p : Plan) → f ≡ file-of (p .draft) → (r ≡ Ok tt) × (q ≡ p)
+
+-- a file in form is accepted exactly when its marks are two spanning trees with counters
+abbrev pub Accepts-trees : List ℕ → Bool → Type 0
+Accepts-trees f accepted = (d : Draft) → file-of d ≡ f → Decides accepted (Two-trees d)
