@@ -4,7 +4,7 @@ use mathlib.Core.Bool.{Bool, true}
 use mathlib.Core.List.{List, [], _∷_, _++_, reverse, reverse-cons}
 use mathlib.Core.Path.{_≡_, refl, sym, _∙_, ap, subst}
 use lib.ListN.{length, getD}
-use Rattle.std.proofs.shelf.Lists.{reverse-reverse}
+use Rattle.std.proofs.shelf.Lists.{length-reverse, reverse-reverse}
 use Rattle.lines.specs.declared.lines.Line.{Line}
 use Rattle.lines.specs.declared.lines.Way.{Way}
 use Rattle.lines.specs.Lines.{blank, house-at, near, beyond}
@@ -18,6 +18,19 @@ Trail w p xs h (i ∷ is) =
     × (p (getD xs i blank) ≡ true)
     × (house-at (near w) (getD xs i blank) ≡ h)
     × Trail w p xs (house-at (beyond w) (getD xs i blank)) is
+
+-- the walk of a trail, and the trail of a walk
+abbrev pub turned : Way → List ℕ → List ℕ
+turned Way.Direct is = reverse is
+turned Way.Back is = is
+
+pub turned-turned : (w : Way) (is : List ℕ) → turned w (turned w is) ≡ is
+turned-turned Way.Direct is = reverse-reverse is
+turned-turned Way.Back is = refl
+
+pub turned-length : (w : Way) (is : List ℕ) → length (turned w is) ≡ length is
+turned-length Way.Direct is = length-reverse is
+turned-length Way.Back is = refl
 
 module _ (p : Line → Bool) (xs : List Line) where
   walk-push : (a : ℕ) (is : List ℕ) (i b : ℕ) → Walk p xs a is b → i < length xs → p (getD xs i blank) ≡ true → getD xs i blank .from ≡ b → Walk p xs a (is ++ i ∷ []) (getD xs i blank .to)
@@ -48,15 +61,6 @@ module _ (p : Line → Bool) (xs : List Line) where
   home-trail : (h : ℕ) (is : List ℕ) → Walk p xs h is 0 → Trail Way.Back p xs h is
   home-trail h [] e = e
   home-trail h (i ∷ is) (l, o, n, t) = (l, o, n, home-trail (getD xs i blank .to) is t)
-
-  -- the walk of a trail, and the trail of a walk
-  abbrev pub turned : Way → List ℕ → List ℕ
-  turned Way.Direct is = reverse is
-  turned Way.Back is = is
-
-  pub turned-turned : (w : Way) (is : List ℕ) → turned w (turned w is) ≡ is
-  turned-turned Way.Direct is = reverse-reverse is
-  turned-turned Way.Back is = refl
 
   pub trail-route : (w : Way) (h : ℕ) (is : List ℕ) → Trail w p xs h is → Route w p xs h (turned w is)
   trail-route Way.Direct h is t = trail-out h is t
