@@ -16,6 +16,13 @@ marks-number Marks.Direct = 1
 marks-number Marks.Back = 2
 marks-number Marks.Both = 3
 
+-- the marks of a line that is direct or not, and back or not
+abbrev pub marks-of : Bool → Bool → Marks
+marks-of false false = Marks.Neither
+marks-of true false = Marks.Direct
+marks-of false true = Marks.Back
+marks-of true true = Marks.Both
+
 -- whether a line of these marks belongs to that tree
 abbrev pub marked : Way → Marks → Bool
 marked Way.Direct Marks.Neither = false

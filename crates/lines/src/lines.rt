@@ -1,7 +1,7 @@
 ghost use mathlib.Core.Path.{_≡_};
 ghost use Prim.Native.Nat.{_<_};
 ghost use Rattle.std.specs.Options.{Cases as BySome};
-ghost use Rattle.lines.specs.Lines.{marks-number, marked, near, beyond, house-at, meets};
+ghost use Rattle.lines.specs.Lines.{marks-number, marks-of, marked, near, beyond, house-at, meets};
 
 // How a line is marked, with the number that a file has for it.
 #[derive(Clone, Copy, PartialEq, Eq, Debug)]
@@ -51,6 +51,18 @@ impl Marks {
             2 => Some(Marks::Back),
             3 => Some(Marks::Both),
             _ => None,
+        }
+    }
+
+    // The marks of a line that belongs to these trees.
+    pub fn of(direct: bool, back: bool) -> Marks
+        ensures { λ r. ⌜ r ≡ marks-of direct back ⌝ }
+    {
+        match (direct, back) {
+            (false, false) => Marks::Neither,
+            (true, false) => Marks::Direct,
+            (false, true) => Marks::Back,
+            (true, true) => Marks::Both,
         }
     }
 

@@ -38,22 +38,23 @@ pick p (x ∷ xs) = ⊎-elim (λ e. inl (0, omega arith, e, λ j h _. omega arit
     before : p x ≡ false → (k : ℕ) → ((j : ℕ) → j < k → p (getD xs j blank) ≡ true → ⊥) → (j : ℕ) → j < suc k → p (getD (x ∷ xs) j blank) ≡ true → ⊥
     before e k none zero h t = both-ways (p x) e t
     before e k none (suc j) h t = none j (omega arith) t
+
     next : p x ≡ false → ((i : ℕ) × (i < length xs) × (p (getD xs i blank) ≡ true) × ((j : ℕ) → j < i → p (getD xs j blank) ≡ true → ⊥)) ⊎ ((j : ℕ) → j < length xs → p (getD xs j blank) ≡ true → ⊥) → ((i : ℕ) × (i < suc (length xs)) × (p (getD (x ∷ xs) i blank) ≡ true) × ((j : ℕ) → j < i → p (getD (x ∷ xs) j blank) ≡ true → ⊥)) ⊎ ((j : ℕ) → j < suc (length xs) → p (getD (x ∷ xs) j blank) ≡ true → ⊥)
     next e (inl (i, lt, t, low)) = inl (suc i, omega arith, t, before e i low)
     next e (inr none) = inr (before e (length xs) none)
 
 module _ (w : Way) (xs : List Line) where
   pub away-distance : (h d : ℕ) → Away w xs h d → Distance w xs h d
-  away-distance h d ((is, long, t), least) =
-      ( (turned w is, turned-length w is ∙ long, trail-route any-line xs w h is t)
-      , λ js walk. subst (λ k. d ≤ k) (turned-length w js) (least (turned w js) (route-trail any-line xs w h js walk))
-      )
+  away-distance h d ((is, long, t), least) = (
+    (turned w is, turned-length w is ∙ long, trail-route any-line xs w h is t),
+    λ js walk. subst (λ k. d ≤ k) (turned-length w js) (least (turned w js) (route-trail any-line xs w h js walk)),
+  )
 
   pub distance-away : (h d : ℕ) → Distance w xs h d → Away w xs h d
-  distance-away h d ((is, long, walk), least) =
-      ( (turned w is, turned-length w is ∙ long, route-trail any-line xs w h is walk)
-      , λ js t. subst (λ k. d ≤ k) (turned-length w js) (least (turned w js) (trail-route any-line xs w h js t))
-      )
+  distance-away h d ((is, long, walk), least) = (
+    (turned w is, turned-length w is ∙ long, route-trail any-line xs w h is walk),
+    λ js t. subst (λ k. d ≤ k) (turned-length w js) (least (turned w js) (trail-route any-line xs w h js t)),
+  )
 
   pub one-distance : (h a b : ℕ) → Away w xs h a → Away w xs h b → a ≡ b
   one-distance h a b ((is, ia, ti), leasta) ((js, jb, tj), leastb) = omega (arith, leasta js tj, leastb is ti)
@@ -120,16 +121,17 @@ module _ (w : Way) (xs : List Line) where
           let t : Trail w any-line xs h (i ∷ is) = (lt, refl, at, g-away .2 .0 .2) in
           let last : g-away .0 ≡ s = omega (arith, g-away .1, g-away .2 .0 .1, none (i ∷ is) t) in
           let g-at : Away w xs g s = subst (Away w xs g) last (g-away .2) in
-          let h-at : Away w xs h (suc s) = ((i ∷ is, omega (arith, last, g-away .2 .0 .1), t), λ js u. none js u) in
-          ( s
-          , omega arith
-          , h-at
-          , ( (lt, at, (s, away-distance g s g-at, away-distance h (suc s) h-at))
-            , λ j below nearer.
-                let d-is = one-distance h (suc s) (suc (nearer .2 .0)) h-at (distance-away h (suc (nearer .2 .0)) (nearer .2 .2)) in
-                let j-at = distance-away _ (nearer .2 .0) (nearer .2 .1) in
-                low j below (stepping h j (nearer .0) (nearer .1) (j-at .0 .0) (j-at .0 .2) (omega (arith, d-is, j-at .0 .1)))
-            )
+          let h-at : Away w xs h (suc s) = ((i ∷ is, omega (arith, last, g-away .2 .0 .1), t), λ js u. none js u) in (
+            s,
+            omega arith,
+            h-at,
+            (
+              (lt, at, (s, away-distance g s g-at, away-distance h (suc s) h-at)),
+              λ j below nearer.
+                  let d-is = one-distance h (suc s) (suc (nearer .2 .0)) h-at (distance-away h (suc (nearer .2 .0)) (nearer .2 .2)) in
+                  let j-at = distance-away _ (nearer .2 .0) (nearer .2 .1) in
+                  low j below (stepping h j (nearer .0) (nearer .1) (j-at .0 .0) (j-at .0 .2) (omega (arith, d-is, j-at .0 .1))),
+            ),
           )
 
       -- some entry follows each
@@ -140,9 +142,9 @@ module _ (w : Way) (xs : List Line) where
     entries : (s : ℕ) → (found : ℕ → Option ℕ) × ((g : ℕ) → 1 ≤ g → g < n → Entry s g (found g))
     entries zero = ((λ _. None), λ g far lt. entry-start g far)
     entries (suc s) =
-        let old = entries s in
-        ( (λ g. follow s (old .0) (old .1) g (old .0 g) .0)
-        , λ g far lt. next-entry s (old .0) (old .1) g far (old .0 g) (follow s (old .0) (old .1) g (old .0 g) .0) (old .1 g far lt) (follow s (old .0) (old .1) g (old .0 g) .1)
+        let old = entries s in (
+          (λ g. follow s (old .0) (old .1) g (old .0 g) .0),
+          λ g far lt. next-entry s (old .0) (old .1) g far (old .0 g) (follow s (old .0) (old .1) g (old .0 g) .0) (old .1 g far lt) (follow s (old .0) (old .1) g (old .0 g) .1),
         )
 
     -- EVERY DISTANCE IS BELOW n
@@ -160,11 +162,11 @@ module _ (w : Way) (xs : List Line) where
 
     away-down : (h k : ℕ) → Away w xs h (suc k) → (g : ℕ) × (g < n) × Away w xs g k
     away-down h k (([], long, t), least) = absurd (omega arith)
-    away-down h k ((i ∷ is, long, (lt, ok, at, t)), least) =
-        ( house-at (beyond w) (getD xs i blank)
-        , ends i lt
-        , ((is, omega arith, t), λ js u. omega (arith, least (i ∷ js) (lt, refl, at, u)))
-        )
+    away-down h k ((i ∷ is, long, (lt, ok, at, t)), least) = (
+      house-at (beyond w) (getD xs i blank),
+      ends i lt,
+      ((is, omega arith, t), λ js u. omega (arith, least (i ∷ js) (lt, refl, at, u))),
+    )
 
     module _ (s : ℕ) where
       depth-at : (g : ℕ) → (g < n) ⊎ (n ≤ g) → ℕ

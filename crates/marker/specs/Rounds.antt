@@ -38,6 +38,7 @@ Next w xs found h None None = (j : ℕ) → j < length xs → steps-from w found
 abbrev pub Round : Way → List Line → ℕ → List (Option ℕ) → List (Option ℕ) → Type 0
 Round w xs n old new =
     (length new ≡ 48)
+    × (entry-in new 0 ≡ entry-in old 0)
     × ((h : ℕ) → 1 ≤ h → h < n → Next w xs (entry-in old) h (entry-in old h) (entry-in new h))
 
 -- what the search finds: for each house but the head its chosen line, or none where it is cut off
@@ -46,4 +47,4 @@ Found w xs h (Some i) = Chosen w xs h i
 Found w xs h None = Cut-off w xs h
 
 abbrev pub Searched : Way → List Line → ℕ → List (Option ℕ) → Type 0
-Searched w xs n table = (length table ≡ 48) × ((h : ℕ) → 1 ≤ h → h < n → Found w xs h (entry-in table h))
+Searched w xs n table = (length table ≡ 48) × (entry-in table 0 ≡ None) × ((h : ℕ) → 1 ≤ h → h < n → Found w xs h (entry-in table h))

@@ -1,13 +1,13 @@
-mod Accepted
-mod Bytes
-mod Counts
+pub mod Accepted
+pub mod Bytes
+pub mod Counts
 mod Files
-mod Forms
+pub mod Forms
 mod Lowest
 mod Records
 mod Refusals
-mod Same
-mod Spanning
+pub mod Same
+pub mod Spanning
 mod Trees
 mod Verdicts
 mod Ways

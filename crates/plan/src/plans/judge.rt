@@ -6,7 +6,7 @@ ghost use Rattle.std.specs.Orderings.{When};
 ghost use Rattle.std.specs.Options.{Cases as BySome};
 ghost use Rattle.lines.specs.Lines.{blank, meets, serves, In-form};
 ghost use Rattle.plan.specs.Rules.{lines-of, due, Leads, First-server, No-server, Keeps};
-ghost use Rattle.plan.specs.Judged.{Ready, Checked, Judged};
+ghost use Rattle.plan.specs.Judged.{Counters-of, Recounted, Ready, Checked, Judged};
 use crate::drafts::Draft;
 use crate::plans::Plan;
 use crate::rules::Rule;
@@ -60,6 +60,18 @@ fn leads(lines: &[Line], way: Way, houses: usize, house: usize) -> bool
     at == 0
 }
 
+// For each house the number of back lines that enter it, and 0 for what is no house.
+fn counters_of(lines: &[Line], houses: usize) -> [u8; 48]
+    requires { ⌜ houses ≤ 48 ⌝ ∗ ⌜ length (now lines) ≤ 128 ⌝ }
+    ensures { λ r. ⌜ Counters-of (now (lines .entry)) houses r ⌝ }
+{
+    let mut counters = [0; 48];
+    for house in 0..houses {
+        counters[house] = count(lines, Way::Back, End::To, house) as u8;
+    }
+    counters
+}
+
 // How many lines of a tree serve a house: one each house but the head.
 fn due_count(house: usize) -> usize
     ensures { λ r. ⌜ r ≡ due house ⌝ }
@@ -73,6 +85,20 @@ impl Draft {
         ensures { λ r. ⌜ now r ≡ lines-of (now (self .entry)) ⌝ }
     {
         &self.records[0..self.lines]
+    }
+
+    // This draft with the counters that its back lines give.
+    pub fn counted(self) -> Draft
+        ensures { λ r. ⌜ Recounted self r ⌝ }
+    {
+        let counters = counters_of(self.list(), self.houses);
+        Draft {
+            houses: self.houses,
+            lines: self.lines,
+            capacity: self.capacity,
+            records: self.records,
+            counters,
+        }
     }
 
     // Whether the rule is kept at the house. Where lines are followed, each house is known to have its own.
