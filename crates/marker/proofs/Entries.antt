@@ -26,7 +26,7 @@ abbrev pub Away : Way → List Line → ℕ → ℕ → Type 0
 Away w xs h d =
     ((is : List ℕ) × (length is ≡ d) × Trail w any-line xs h is) × ((js : List ℕ) → Trail w any-line xs h js → d ≤ length js)
 
-end-below : (w : Way) (n : ℕ) (l : Line) → In-form n l → house-at (beyond w) l < n
+pub end-below : (w : Way) (n : ℕ) (l : Line) → In-form n l → house-at (beyond w) l < n
 end-below Way.Direct n l form = form .0
 end-below Way.Back n l form = form .1
 
@@ -42,6 +42,10 @@ pick p (x ∷ xs) = ⊎-elim (λ e. inl (0, omega arith, e, λ j h _. omega arit
     next : p x ≡ false → ((i : ℕ) × (i < length xs) × (p (getD xs i blank) ≡ true) × ((j : ℕ) → j < i → p (getD xs j blank) ≡ true → ⊥)) ⊎ ((j : ℕ) → j < length xs → p (getD xs j blank) ≡ true → ⊥) → ((i : ℕ) × (i < suc (length xs)) × (p (getD (x ∷ xs) i blank) ≡ true) × ((j : ℕ) → j < i → p (getD (x ∷ xs) j blank) ≡ true → ⊥)) ⊎ ((j : ℕ) → j < suc (length xs) → p (getD (x ∷ xs) j blank) ≡ true → ⊥)
     next e (inl (i, lt, t, low)) = inl (suc i, omega arith, t, before e i low)
     next e (inr none) = inr (before e (length xs) none)
+
+pub away-zero : (w : Way) (xs : List Line) (h : ℕ) → Away w xs h 0 → h ≡ 0
+away-zero w xs h (([], long, t), least) = t
+away-zero w xs h ((i ∷ is, long, t), least) = absurd (omega arith)
 
 module _ (w : Way) (xs : List Line) where
   pub away-distance : (h d : ℕ) → Away w xs h d → Distance w xs h d
@@ -202,7 +206,7 @@ module _ (w : Way) (xs : List Line) where
           let next = away-down h k (d .1) in
           (next .0, next .1, depth-is (next .0) k (next .1) (omega (arith, d .0)) (next .2))
 
-    near-by : (h : ℕ) → h < n → (is : List ℕ) → Trail w any-line xs h is → (e : ℕ) × (e < n) × Away w xs h e
+    pub near-by : (h : ℕ) → h < n → (is : List ℕ) → Trail w any-line xs h is → (e : ℕ) × (e < n) × Away w xs h e
     near-by h lt is t =
         ⊎-elim
         (λ k. (k .0, subst (λ m. m < n) (depth-is (length is) h (k .0) lt (k .1) (k .2)) (shallow n (depth (length is)) (down (length is)) h lt), k .2))

@@ -1,1 +1,5 @@
+mod Again
 mod Entries
+mod Ends
+mod Keeping
+mod Tabled

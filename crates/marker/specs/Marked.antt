@@ -1,16 +1,18 @@
 -- What the marker makes of a draft, and when it refuses.
 use Prim.Native.Nat.{ℕ, _<_, _≤_}
-use mathlib.Core.Bool.{Bool, false}
+use mathlib.Core.Bool.{Bool, true, false}
 use mathlib.Core.List.{List}
 use mathlib.Core.Logic.{_⊎_}
 use mathlib.Core.Path.{_≡_}
 use lib.Dec.{eqb}
 use lib.ListN.{length, getD}
+use Rattle.std.specs.Options.{isSome}
 use Rattle.std.specs.Orderings.{Decides}
 use Rattle.std.specs.declared.option.Option.{Option}
 use Rattle.std.specs.declared.option.Option.the-variants.{Some, None}
 use Rattle.std.specs.declared.result.Result.{Result}
 use Rattle.std.specs.declared.result.Result.the-variants.{Ok, Err}
+use Rattle.fault.specs.declared.causes.Cause.{Cause}
 use Rattle.fault.specs.declared.causes.Cause.the-variants.{NoWayFromHead, NoWayToHead}
 use Rattle.fault.specs.declared.faults.Fault.{Fault}
 use Rattle.fault.specs.Layers.{fault-at}
@@ -69,6 +71,17 @@ Unmarked f v = ((number (v .cause) ≤ 6) × Refused f v) ⊎ ((d : Draft) × (f
 
 -- WHAT THE MARKER ANSWERS
 
+-- the draft marked anew becomes a plan, or a house is cut off
+abbrev pub Mark-draft : Draft → Result Plan Fault → Type 0
+Mark-draft d (Ok p) = Joined-up Way.Direct d × Joined-up Way.Back d × Remarked d (p .draft)
+Mark-draft d (Err v) = Unreached d v
+
+-- the plan of the file marked anew, or why it is refused
+abbrev pub Mark-plan : List ℕ → Result Plan Fault → Type 0
+Mark-plan f (Ok p) =
+    (d : Draft) × (file-of d ≡ f) × Joined-up Way.Direct d × Joined-up Way.Back d × Remarked d (p .draft)
+Mark-plan f (Err v) = Unmarked f v
+
 -- the place holds the plan of the file marked anew; or the file is refused and the place is as it was
 abbrev pub Mark-answer : List ℕ → Plan → Result (Unit {0}) Fault → Plan → Type 0
 Mark-answer f p (Ok _) q =
@@ -84,6 +97,9 @@ abbrev pub Refuses-cut-off : List ℕ → Bool → Type 0
 Refuses-cut-off f refused = (d : Draft) → file-of d ≡ f → Decides refused (Some-cut-off d)
 
 -- marking the file of a marked plan gives that plan again
+abbrev pub Marks-plan-again : List ℕ → Result Plan Fault → Type 0
+Marks-plan-again f r = (p : Plan) (d : Draft) → Remarked d (p .draft) → f ≡ file-of (p .draft) → r ≡ Ok p
+
 abbrev pub Marks-again : List ℕ → Result (Unit {0}) Fault → Plan → Type 0
 Marks-again f r q = (p : Plan) (d : Draft) → Remarked d (p .draft) → f ≡ file-of (p .draft) → (r ≡ Ok tt) × (q ≡ p)
 
@@ -112,3 +128,13 @@ Remarked-by d out home e =
     × (e .capacity ≡ d .capacity)
     × Retabled d out home (e .records)
     × Kept Rule.Counters e
+
+-- each house but the head has its line, or the lowest that has none is named
+abbrev pub Complete : (ℕ → Option ℕ) → ℕ → Cause → Result (Unit {0}) Fault → Type 0
+Complete found n cause (Ok _) = (h : ℕ) → 1 ≤ h → h < n → isSome (found h) ≡ true
+Complete found n cause (Err v) =
+    (v ≡ fault-at cause (v .place))
+    × (1 ≤ v .place)
+    × (v .place < n)
+    × (isSome (found (v .place)) ≡ false)
+    × ((g : ℕ) → 1 ≤ g → g < v .place → isSome (found g) ≡ true)

@@ -3,15 +3,17 @@ ghost use Prim.Native.Nat.{ℕ, _<_, _≤_};
 ghost use lib.ListN.{length, getD};
 ghost use Rattle.std.specs.Options.{isSome};
 ghost use Rattle.lines.specs.Lines.{In-form, blank};
+ghost use Rattle.plan.specs.Rules.{lines-of};
 ghost use Rattle.marker.specs.Rounds.{entry-in, steps-from, Round, Searched};
 use lines::Line;
 use lines::Way;
+use plan::Draft;
 
 // For each house the line that leads one step towards the head, where it was found. The head has none.
 pub type Table = [Option<usize>; 48];
 
 // Whether the table has a line for the house.
-fn has_line(table: &Table, house: usize) -> bool
+pub fn has_line(table: &Table, house: usize) -> bool
     requires { ⌜ length (now table) ≡ 48 ⌝ }
     ensures { λ r. ⌜ r ≡ isSome (entry-in (now (table .entry)) house) ⌝ }
 {
@@ -51,7 +53,7 @@ fn round(lines: &[Line], way: Way, houses: usize, table: &mut Table)
 }
 
 // The line towards the head of each house, by rounds: a house is reached in the round of its distance.
-pub fn search(lines: &[Line], way: Way, houses: usize) -> Table
+fn search_lines(lines: &[Line], way: Way, houses: usize) -> Table
     requires within { ⌜ houses ≤ 48 ⌝ }
     requires form { ⌜ ((i : ℕ) → i < length (now lines) → In-form houses (getD (now lines) i blank)) ⌝ }
     ensures { λ r. ⌜ Searched way (now (lines .entry)) houses r ⌝ }
@@ -61,4 +63,11 @@ pub fn search(lines: &[Line], way: Way, houses: usize) -> Table
         round(lines, way, houses, &mut table);
     }
     table
+}
+
+// The search over the lines of a draft.
+pub fn search(draft: &Draft, way: Way) -> Table
+    ensures { λ r. ⌜ Searched way (lines-of (now (draft .entry))) (now (draft .entry) .houses) r ⌝ }
+{
+    search_lines(draft.list(), way, draft.houses)
 }

@@ -1,44 +1,19 @@
-use Prim.Native.Nat.{ℕ, zero, suc, _+_, _-_, _<_, _≤_}
-use mathlib.Core.Path.{_≡_, refl, sym, _∙_, subst}
+use Prim.Native.Nat.{ℕ, _<_}
+use mathlib.Core.Path.{_≡_, sym, subst}
 use native.Mathlib.Omega.{arith}
-use lib.ListN.{getD, replicate}
-use Rattle.std.specs.declared.option.Option.{Option}
-use Rattle.std.specs.declared.option.Option.the-variants.{None}
-use Rattle.marker.specs.Rounds.{entry-in}
-use Rattle.marker.proofs.Entries.{Entry, entry-start, next-entry, entry-found}
+use lib.ListN.{length, getD}
+use Rattle.lines.specs.Lines.{blank, In-form}
+use Rattle.plan.proofs.Forms.{form-of}
+use Rattle.marker.specs.Rounds.{Searched}
 use Rattle.marker.proofs.rounds.search.Needs as need
 
-all-none : (n h : ℕ) → getD {A = Option ℕ} (replicate n None) h None ≡ None
-all-none zero h = refl
-all-none (suc n) zero = refl
-all-none (suc n) (suc h) = all-none n h
-
-pub loop-step-holds : need.loop-step-holds
-loop-step-holds c =
-    (refl, refl, λ h far lt. subst (Entry (c .args .way) (c .args .lines .now) 0 h) (sym (all-none 48 h)) (entry-start (c .args .way) (c .args .lines .now) h far))
-
-pub loop-step-again : need.loop-step-again
-loop-step-again c =
-    let w = c .args .way in
-    let xs = c .args .lines .now in
-    let s = c .loop-step .step - 1 in
-    let more : suc s ≡ c .loop-step .step + 1 - 1 = omega arith in (
-      c .round .ensures .0,
-      c .round .ensures .1 ∙ c .loop-step .inv .1,
-      λ h far lt.
-          subst (λ k. Entry w xs k h (entry-in (c .round .last .table) h)) more
-          (next-entry w xs (c .args .houses) (c .pre .form) s (entry-in (c .loop-step .table)) (c .loop-step .inv .2) h far (entry-in (c .loop-step .table) h) (entry-in (c .round .last .table) h) (c .loop-step .inv .2 h far lt) (c .round .ensures .2 h far lt)),
-    )
+pub search-lines-requires : need.search-lines-requires
+search-lines-requires c κs =
+    let d = c .args .draft .now in
+    record {
+      within = omega arith;
+      form = subst (λ xs. (i : ℕ) → i < length xs → In-form (d .houses) (getD xs i blank)) (sym (c .list .ensures)) (form-of d);
+    }
 
 pub returns : need.returns
-returns c =
-    let w = c .args .way in
-    let xs = c .args .lines .now in
-    let n = c .args .houses in (
-      c .loop-step .inv .0,
-      c .loop-step .inv .1,
-      λ h far lt.
-          let last : c .loop-step .step - 1 ≡ n - 1 = omega arith in
-          entry-found w xs n (c .pre .form) h lt (entry-in (c .loop-step .table) h)
-          (subst (λ k. Entry w xs k h (entry-in (c .loop-step .table) h)) last (c .loop-step .inv .2 h far lt)),
-    )
+returns c = subst (λ xs. Searched (c .args .way) xs (c .args .draft .now .houses) (c .search-lines .result)) (c .list .ensures) (c .search-lines .ensures)

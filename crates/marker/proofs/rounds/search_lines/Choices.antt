@@ -4,7 +4,7 @@ use lib.ListN.{length}
 use Rattle.std.specs.declared.option.Option.the-variants.{None}
 use Rattle.marker.specs.Rounds.{entry-in}
 use Rattle.marker.proofs.Entries.{Entry}
-use Rattle.marker.proofs.rounds.search.Given as given
+use Rattle.marker.proofs.rounds.search_lines.Given as given
 
 abbrev pub Inv-loop-step : given.InvT-loop-step
 Inv-loop-step l =
