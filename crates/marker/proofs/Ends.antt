@@ -26,12 +26,12 @@ end-same xs ys same End.To i = same .1 i .1
 module _ (xs ys : List Line) (same : Same-ends xs ys) where
   walk-same : (a : ℕ) (is : List ℕ) (b : ℕ) → Walk any-line xs a is b → Walk any-line ys a is b
   walk-same a [] b e = e
-  walk-same a (i ∷ is) b (lt, ok, from, rest) =
-      ( subst (λ k. i < k) (same .0) lt
-      , refl
-      , sym (same .1 i .0) ∙ from
-      , subst (λ g. Walk any-line ys g is b) (same .1 i .1) (walk-same (getD xs i blank .to) is b rest)
-      )
+  walk-same a (i ∷ is) b (lt, ok, from, rest) = (
+    subst (λ k. i < k) (same .0) lt,
+    refl,
+    sym (same .1 i .0) ∙ from,
+    subst (λ g. Walk any-line ys g is b) (same .1 i .1) (walk-same (getD xs i blank .to) is b rest),
+  )
 
   pub route-same : (w : Way) (h : ℕ) (is : List ℕ) → Route w any-line xs h is → Route w any-line ys h is
   route-same Way.Direct h is walk = walk-same 0 is h walk
@@ -43,11 +43,11 @@ module _ (xs ys : List Line) (same : Same-ends xs ys) (w : Way) where
       ((is, long, route-same xs ys same w h is walk), λ js back. least js (route-same ys xs (ends-back xs ys same) w h js back))
 
   nearer-same : (h i : ℕ) → Nearer w xs h i → Nearer w ys h i
-  nearer-same h i (lt, at, (d, g, far)) =
-      ( subst (λ k. i < k) (same .0) lt
-      , sym (end-same xs ys same (near w) i) ∙ at
-      , (d, subst (λ k. Distance w ys k d) (end-same xs ys same (beyond w) i) (distance-same _ d g), distance-same h (suc d) far)
-      )
+  nearer-same h i (lt, at, (d, g, far)) = (
+    subst (λ k. i < k) (same .0) lt,
+    sym (end-same xs ys same (near w) i) ∙ at,
+    (d, subst (λ k. Distance w ys k d) (end-same xs ys same (beyond w) i) (distance-same _ d g), distance-same h (suc d) far),
+  )
 
 pub chosen-same : (xs ys : List Line) → Same-ends xs ys → (w : Way) (h i : ℕ) → Chosen w xs h i → Chosen w ys h i
 chosen-same xs ys same w h i (here, low) =

@@ -59,11 +59,11 @@ module _ (d e : Draft) (rem : Remarked d e) (w : Way) (chosen : (h : ℕ) → 1 
       ⊎-elim
       (λ z. subst (λ k. countBy (serves w k) (lines-of e) ≡ due k) (sym z) (none-counted (serves w 0) blank (lines-of e) (λ i l s. head-unchosen w (lines-of d) i (serves-chosen 0 i l s))))
       (λ far.
-        let c = chosen h (omega arith) (omega (arith, rem .0)) in
-        let some = counted (serves w h) blank (lines-of e) (c .0) (within h (c .0) (c .1)) (chosen-serves h (c .0) (c .1)) in
-        let few = one-counted (serves w h) blank (lines-of e) (λ i j li lj si sj. one-chosen w (lines-of d) h i j (serves-chosen h i li si) (serves-chosen h j lj sj)) in
-        let one : due h ≡ 1 = cond-false (eqb h 0) 0 1 (ne-eqb h 0 far) in
-        omega (arith, some, few, one))
+      let c = chosen h (omega arith) (omega (arith, rem .0)) in
+      let some = counted (serves w h) blank (lines-of e) (c .0) (within h (c .0) (c .1)) (chosen-serves h (c .0) (c .1)) in
+      let few = one-counted (serves w h) blank (lines-of e) (λ i j li lj si sj. one-chosen w (lines-of d) h i j (serves-chosen h i li si) (serves-chosen h j lj sj)) in
+      let one : due h ≡ 1 = cond-false (eqb h 0) 0 1 (ne-eqb h 0 far) in
+      omega (arith, some, few, one))
       (cases-eq h 0)
 
   lead : (k h : ℕ) → h < d .houses → Distance w (lines-of d) h k → Leads w (lines-of e) k h
@@ -72,13 +72,13 @@ module _ (d e : Draft) (rem : Remarked d e) (w : Way) (chosen : (h : ℕ) → 1 
       ⊎-elim
       (λ z. inl z)
       (λ far.
-        let c = chosen h (omega arith) lt in
-        let g = house-at (beyond w) (getD (lines-of d) (c .0) blank) in
-        let away = c .1 .0 .2 in
-        let same : suc (away .0) ≡ suc k = one-distance w (lines-of d) h (suc (away .0)) (suc k) (distance-away w (lines-of d) h (suc (away .0)) (away .2)) (distance-away w (lines-of d) h (suc k) dist) in
-        let k-is : away .0 ≡ k = omega (arith, same) in
-        let on = lead k g (end-below w (d .houses) _ (form-of d (c .0) (c .1 .0 .0))) (subst (Distance w (lines-of d) g) k-is (away .1)) in
-        inr (c .0, within h (c .0) (c .1), chosen-serves h (c .0) (c .1), subst (Leads w (lines-of e) k) (end-same (lines-of d) (lines-of e) (rem .3) (beyond w) (c .0)) on))
+      let c = chosen h (omega arith) lt in
+      let g = house-at (beyond w) (getD (lines-of d) (c .0) blank) in
+      let away = c .1 .0 .2 in
+      let same : suc (away .0) ≡ suc k = one-distance w (lines-of d) h (suc (away .0)) (suc k) (distance-away w (lines-of d) h (suc (away .0)) (away .2)) (distance-away w (lines-of d) h (suc k) dist) in
+      let k-is : away .0 ≡ k = omega (arith, same) in
+      let on = lead k g (end-below w (d .houses) _ (form-of d (c .0) (c .1 .0 .0))) (subst (Distance w (lines-of d) g) k-is (away .1)) in
+      inr (c .0, within h (c .0) (c .1), chosen-serves h (c .0) (c .1), subst (Leads w (lines-of e) k) (end-same (lines-of d) (lines-of e) (rem .3) (beyond w) (c .0)) on))
       (cases-eq h 0)
 
   leading : Kept (Rule.Leading w) e
@@ -86,14 +86,14 @@ module _ (d e : Draft) (rem : Remarked d e) (w : Way) (chosen : (h : ℕ) → 1 
       ⊎-elim
       (λ z. leads-more w (lines-of e) 0 (e .houses - 1) h (omega arith) z)
       (λ far.
-        let here : h < d .houses = omega (arith, rem .0) in
-        let c = chosen h (omega arith) here in
-        let dist = c .1 .0 .2 .2 in
-        let k = suc (c .1 .0 .2 .0) in
-        let away = distance-away w (lines-of d) h k dist in
-        let near-e = near-by w (lines-of d) (d .houses) (form-of d) h here (away .0 .0) (away .0 .2) in
-        let k-is : near-e .0 ≡ k = one-distance w (lines-of d) h (near-e .0) k (near-e .2) away in
-        leads-more w (lines-of e) k (e .houses - 1) h (omega (arith, near-e .1, k-is, rem .0)) (lead k h here dist))
+      let here : h < d .houses = omega (arith, rem .0) in
+      let c = chosen h (omega arith) here in
+      let dist = c .1 .0 .2 .2 in
+      let k = suc (c .1 .0 .2 .0) in
+      let away = distance-away w (lines-of d) h k dist in
+      let near-e = near-by w (lines-of d) (d .houses) (form-of d) h here (away .0 .0) (away .0 .2) in
+      let k-is : near-e .0 ≡ k = one-distance w (lines-of d) h (near-e .0) k (near-e .2) away in
+      leads-more w (lines-of e) k (e .houses - 1) h (omega (arith, near-e .1, k-is, rem .0)) (lead k h here dist))
       (cases-eq h 0)
 
 pub keeps : (d e : Draft) → Remarked d e → ((w : Way) (h : ℕ) → 1 ≤ h → h < d .houses → (i : ℕ) × Chosen w (lines-of d) h i) → (q : Rule) → Kept q e

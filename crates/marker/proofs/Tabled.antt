@@ -65,23 +65,23 @@ module _ (w : Way) (d : Draft) (found : ℕ → Option ℕ) (is-found : (h : ℕ
       ⊎-elim
       (λ z. head-joined w (lines-of d) (subst (Cut-off w (lines-of d)) z cut))
       (λ far.
-        let c = found-chosen w (lines-of d) h (found h) (is-found h (omega arith) lt) (there (omega arith)) in
-        chosen-joined w (lines-of d) h (c .0) (c .1) cut)
+      let c = found-chosen w (lines-of d) h (found h) (is-found h (omega arith) lt) (there (omega arith)) in
+      chosen-joined w (lines-of d) h (c .0) (c .1) cut)
       (cases-eq h 0)
 
   pub joined-up : ((h : ℕ) → 1 ≤ h → h < d .houses → isSome (found h) ≡ true) → Joined-up w d
   joined-up there h lt = joined-at h lt (λ far. there h far lt)
 
   pub first-cut : (cause : Cause) (v : Fault) → Complete found (d .houses) cause (Err v) → First-cut w d (v .place)
-  first-cut cause v (_, far, lt, none, before) =
-      ( lt
-      , found-cut w (lines-of d) (v .place) (found (v .place)) (is-found (v .place) far lt) none
-      , λ g below. joined-at g (omega arith) (λ g-far. before g g-far below)
-      )
+  first-cut cause v (_, far, lt, none, before) = (
+    lt,
+    found-cut w (lines-of d) (v .place) (found (v .place)) (is-found (v .place) far lt) none,
+    λ g below. joined-at g (omega arith) (λ g-far. before g g-far below),
+  )
 
 -- THE MARKS BY THE TABLES
 
-abbrev by-way : (ℕ → Option ℕ) → (ℕ → Option ℕ) → Way → ℕ → Option ℕ
+abbrev pub by-way : (ℕ → Option ℕ) → (ℕ → Option ℕ) → Way → ℕ → Option ℕ
 by-way out home Way.Direct = out
 by-way out home Way.Back = home
 
@@ -114,31 +114,31 @@ module _ (d e : Draft) (out home : ℕ → Option ℕ) (rem : Remarked-by d out 
       ∙ sym (getD-past (lines-of e) i blank (omega (arith, length-lines e, rem .1)))
 
   same-ends : Same-ends (lines-of d) (lines-of e)
-  same-ends =
-      ( length-lines d ∙ sym (rem .1) ∙ sym (length-lines e)
-      , λ i.
-          ⊎-elim
-          (λ lt. (sym (ap (λ l. l .from) (line-is i lt)), sym (ap (λ l. l .to) (line-is i lt))))
-          (λ ge. (ap (λ l. l .from) (past i ge), ap (λ l. l .to) (past i ge)))
-          (cases-lt i (d .lines))
-      )
+  same-ends = (
+    length-lines d ∙ sym (rem .1) ∙ sym (length-lines e),
+    λ i.
+        ⊎-elim
+        (λ lt. (sym (ap (λ l. l .from) (line-is i lt)), sym (ap (λ l. l .to) (line-is i lt))))
+        (λ ge. (ap (λ l. l .from) (past i ge), ap (λ l. l .to) (past i ge)))
+        (cases-lt i (d .lines)),
+  )
 
   chosen-marked : (w : Way) (i : ℕ) → i < d .lines → Decides (marked w (getD (lines-of e) i blank .marks)) (Chosen w (lines-of d) (house-at (near w) (getD (lines-of d) i blank)) i)
   chosen-marked w i lt =
       let l = getD (lines-of d) i blank in
       let h = house-at (near w) l in
       let within : h < d .houses = near-below w (d .houses) l (form-of d i (omega (arith, length-lines d))) in
-      let marks : marked w (getD (lines-of e) i blank .marks) ≡ takes (by-way out home w h) i = ap (λ x. marked w (x .marks)) (line-is i lt) ∙ remark-takes out home w i l in
-      ( λ on.
-          ⊎-elim
-          (λ z. absurd (false≢true (sym (ap (λ o. takes o i) (ap (by-way out home w) z ∙ head w)) ∙ sym marks ∙ on)))
-          (λ far. takes-chosen w (lines-of d) h i (by-way out home w h) (is-found w h (omega arith) within) (sym marks ∙ on))
-          (cases-eq h 0)
-      , λ chosen.
-          ⊎-elim
-          (λ z. absurd (head-unchosen w (lines-of d) i (subst (λ k. Chosen w (lines-of d) k i) z chosen)))
-          (λ far. marks ∙ chosen-takes w (lines-of d) h i (by-way out home w h) (is-found w h (omega arith) within) chosen)
-          (cases-eq h 0)
+      let marks : marked w (getD (lines-of e) i blank .marks) ≡ takes (by-way out home w h) i = ap (λ x. marked w (x .marks)) (line-is i lt) ∙ remark-takes out home w i l in (
+        λ on.
+            ⊎-elim
+            (λ z. absurd (false≢true (sym (ap (λ o. takes o i) (ap (by-way out home w) z ∙ head w)) ∙ sym marks ∙ on)))
+            (λ far. takes-chosen w (lines-of d) h i (by-way out home w h) (is-found w h (omega arith) within) (sym marks ∙ on))
+            (cases-eq h 0),
+        λ chosen.
+            ⊎-elim
+            (λ z. absurd (head-unchosen w (lines-of d) i (subst (λ k. Chosen w (lines-of d) k i) z chosen)))
+            (λ far. marks ∙ chosen-takes w (lines-of d) h i (by-way out home w h) (is-found w h (omega arith) within) chosen)
+            (cases-eq h 0),
       )
 
   remarked : Remarked d e
@@ -146,10 +146,10 @@ module _ (d e : Draft) (out home : ℕ → Option ℕ) (rem : Remarked-by d out 
 
   -- the judge takes it
   pub marked-draft : ((w : Way) (h : ℕ) → 1 ≤ h → h < d .houses → isSome (by-way out home w h) ≡ true) → (r : Result Plan Fault) → Judged e r → Mark-draft d r
-  marked-draft there (Ok p) same =
-      ( joined-up Way.Direct d out (is-found Way.Direct) (there Way.Direct)
-      , joined-up Way.Back d home (is-found Way.Back) (there Way.Back)
-      , subst (Remarked d) (sym same) remarked
-      )
+  marked-draft there (Ok p) same = (
+    joined-up Way.Direct d out (is-found Way.Direct) (there Way.Direct),
+    joined-up Way.Back d home (is-found Way.Back) (there Way.Back),
+    subst (Remarked d) (sym same) remarked,
+  )
   marked-draft there (Err v) (q, _, (lt, broken, _), _) =
       absurd (broken (keeps d e remarked (λ w. all-chosen w d (by-way out home w) (is-found w) (there w)) q (v .place) lt))

@@ -1,5 +1,5 @@
 -- The file of a plan is never refused.
-use Prim.Native.Nat.{ℕ, zero, suc, _+_, _*_, _<_}
+use Prim.Native.Nat.{ℕ, zero, suc, _+_, _*_, _<_, _≤_}
 use mathlib.Core.List.{List}
 use mathlib.Core.Logic.{inl, inr, ∥∥₁-elim}
 use mathlib.Core.Path.{_≡_, refl, _∙_, ap, subst}
@@ -11,6 +11,7 @@ use Rattle.std.specs.declared.result.Result.the-variants.{Ok, Err}
 use Rattle.fault.specs.declared.causes.Cause.{Cause}
 use Rattle.fault.specs.declared.causes.Cause.the-variants.{FileShort, WrongMark, WrongVersion, BeyondLimits, WrongLength, WrongRecord, DirectIn, DirectWay, BackOut, BackWay, WrongCounter, NoWayFromHead, NoWayToHead, BufferShort, Unfit, NoLine, NothingWaits, LineFull, LineEmpty, NoHouse, WrongReading, RoundOpen, NoRound, NoAnswer, ManyReadings, NoForm}
 use Rattle.fault.specs.declared.faults.Fault.{Fault}
+use Rattle.fault.specs.Numbers.{number}
 use Rattle.plan.specs.declared.drafts.Draft.{Draft}
 use Rattle.plan.specs.declared.plans.Plan.{Plan}
 use Rattle.plan.specs.Files.{file-of, houses-in, lines-in, Right-record, Wrong-record, First-wrong, Misjudged-file, Flaw, Refused}
@@ -55,13 +56,45 @@ never-misjudged p v (d, same, (q, _, breaks, _)) =
     let broken : Breaks q (p .draft) (v .place) = subst (λ x. Breaks q x (v .place)) e breaks in
     ∥∥₁-elim (p .right q (v .place) (broken .0)) ⊥-prop (broken .1)
 
+-- the file of a draft is in form
+formed : (d : Draft) (k : Cause) (at : ℕ) → number k ≤ 6 → Flaw k (file-of d) at → ⊥
+formed d FileShort at low flaw = omega (arith, flaw .0)
+formed d WrongMark at low flaw = wrong-mark d at flaw
+formed d WrongVersion at low flaw = flaw .2 refl
+formed d BeyondLimits at low flaw = beyond-limits d at flaw
+formed d WrongLength at low flaw = flaw .2 (sized d)
+formed d WrongRecord at low flaw = no-wrong d (flaw .3 .0) (flaw .3 .1) (flaw .3 .3)
+formed d DirectIn at low flaw = omega arith
+formed d DirectWay at low flaw = omega arith
+formed d BackOut at low flaw = omega arith
+formed d BackWay at low flaw = omega arith
+formed d WrongCounter at low flaw = omega arith
+formed d NoWayFromHead at low flaw = omega arith
+formed d NoWayToHead at low flaw = omega arith
+formed d BufferShort at low flaw = omega arith
+formed d Unfit at low flaw = omega arith
+formed d NoLine at low flaw = omega arith
+formed d NothingWaits at low flaw = omega arith
+formed d LineFull at low flaw = omega arith
+formed d LineEmpty at low flaw = omega arith
+formed d NoHouse at low flaw = omega arith
+formed d WrongReading at low flaw = omega arith
+formed d RoundOpen at low flaw = omega arith
+formed d NoRound at low flaw = omega arith
+formed d NoAnswer at low flaw = omega arith
+formed d ManyReadings at low flaw = omega arith
+formed d NoForm at low flaw = omega arith
+
+pub never-malformed : (d : Draft) (v : Fault) → number (v .cause) ≤ 6 → Refused (file-of d) v → ⊥
+never-malformed d v low (_, flaw) = formed d (v .cause) (v .place) low flaw
+
 never : (p : Plan) (k : Cause) (at : ℕ) → Flaw k (file-of (p .draft)) at → ⊥
-never p FileShort at flaw = omega (arith, flaw .0)
-never p WrongMark at flaw = wrong-mark (p .draft) at flaw
-never p WrongVersion at flaw = flaw .2 refl
-never p BeyondLimits at flaw = beyond-limits (p .draft) at flaw
-never p WrongLength at flaw = flaw .2 (sized (p .draft))
-never p WrongRecord at flaw = no-wrong (p .draft) (flaw .3 .0) (flaw .3 .1) (flaw .3 .3)
+never p FileShort at flaw = formed (p .draft) FileShort at (omega arith) flaw
+never p WrongMark at flaw = formed (p .draft) WrongMark at (omega arith) flaw
+never p WrongVersion at flaw = formed (p .draft) WrongVersion at (omega arith) flaw
+never p BeyondLimits at flaw = formed (p .draft) BeyondLimits at (omega arith) flaw
+never p WrongLength at flaw = formed (p .draft) WrongLength at (omega arith) flaw
+never p WrongRecord at flaw = formed (p .draft) WrongRecord at (omega arith) flaw
 never p DirectIn at flaw = never-misjudged p _ flaw
 never p DirectWay at flaw = never-misjudged p _ flaw
 never p BackOut at flaw = never-misjudged p _ flaw

@@ -19,24 +19,24 @@ loop-house-holds c = (refl, (λ h lt. absurd (omega arith)), (λ h _. all-alike 
 pub cast-counters : need.cast-counters
 cast-counters c =
     let small : c .count .result < 256 =
-        omega (arith, c .count .ensures, countBy-le-length (meets Way.Back End.To (c .loop-house .house)) (c .args .lines .now), c .pre .1) in
+    omega (arith, c .count .ensures, countBy-le-length (meets Way.Back End.To (c .loop-house .house)) (c .args .lines .now), c .pre .1) in
     search needs
 
 pub loop-house-again : need.loop-house-again
 loop-house-again c =
     let cs = c .loop-house .counters in
     let i = c .loop-house .house in
-    let x = c .count .result in
-    ( length-set cs i x ∙ c .loop-house .inv .0
-    , below-more _ i
-      (λ k lt. let ne : k ≢ i = omega arith in getD-set-other cs i k x 0 ne ∙ c .loop-house .inv .1 k lt)
-      (getD-set-same cs i x 0 (omega (arith, c .loop-house .inv .0)) ∙ c .count .ensures)
-    , λ k past. let ne : k ≢ i = omega arith in getD-set-other cs i k x 0 ne ∙ c .loop-house .inv .2 k (omega arith)
+    let x = c .count .result in (
+      length-set cs i x ∙ c .loop-house .inv .0,
+      below-more _ i
+          (λ k lt. let ne : k ≢ i = omega arith in getD-set-other cs i k x 0 ne ∙ c .loop-house .inv .1 k lt)
+          (getD-set-same cs i x 0 (omega (arith, c .loop-house .inv .0)) ∙ c .count .ensures),
+      λ k past. let ne : k ≢ i = omega arith in getD-set-other cs i k x 0 ne ∙ c .loop-house .inv .2 k (omega arith),
     )
 
 pub returns : need.returns
-returns c =
-    ( c .loop-house .inv .0
-    , (λ h lt. c .loop-house .inv .1 h (omega arith))
-    , (λ h past. c .loop-house .inv .2 h (omega arith))
-    )
+returns c = (
+  c .loop-house .inv .0,
+  (λ h lt. c .loop-house .inv .1 h (omega arith)),
+  (λ h past. c .loop-house .inv .2 h (omega arith)),
+)
