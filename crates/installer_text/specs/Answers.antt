@@ -3,8 +3,8 @@ use Prim.Native.Nat.{ℕ, _+_}
 use mathlib.Core.List.{List, [], _∷_, _++_}
 use mathlib.Core.Logic.{_⊎_, _≢_}
 use mathlib.Core.Path.{_≡_}
-use lib.Chars.{codes}
 use lib.ListN.{length}
+use Rattle.std.specs.declared.result.Result.the-variants.{Ok}
 use Rattle.fault.specs.declared.causes.Cause.the-variants.{NoForm}
 use Rattle.fault.specs.declared.faults.Fault.{Fault}
 use Rattle.fault.specs.Layers.{fault-at}
@@ -13,7 +13,10 @@ use Rattle.plan.specs.declared.plans.Plan.{Plan}
 use Rattle.plan.specs.Files.{file-of, Refused}
 use Rattle.words.specs.Hex.{Bytes, No-bytes}
 use Rattle.words.specs.Parts.{words}
-use Rattle.installer_text.specs.Reports.{report-of}
+use Rattle.marker.specs.Marked.{Mark-plan, Unmarked}
+use Rattle.installer_text.specs.declared.commands.Command.{Command}
+use Rattle.installer_text.specs.Commands.{name-of}
+use Rattle.installer_text.specs.Reports.{file-text, report-of}
 
 -- a refusal on a line of its own
 abbrev pub refusal-line : Fault → List ℕ
@@ -25,6 +28,18 @@ Verdict f t =
     ((p : Plan) × (file-of (p .draft) ≡ f) × (t ≡ report-of p))
     ⊎ ((v : Fault) × Refused f v × (t ≡ refusal-line v))
 
+-- the verdict on a file that is to be marked: the report on the marked plan and then its file, in hexadecimal capitals on
+-- a line of its own, or why it is refused
+abbrev pub Marking : List ℕ → List ℕ → Type 0
+Marking f t =
+    ((p : Plan) × Mark-plan f (Ok p) × (t ≡ report-of p ++ file-text p))
+    ⊎ ((v : Fault) × Unmarked f v × (t ≡ refusal-line v))
+
+-- what a command asks of a file
+abbrev pub Asked : Command → List ℕ → List ℕ → Type 0
+Asked Command.Check = Verdict
+Asked Command.Mark = Marking
+
 -- some text of that kind stands behind what was there
 abbrev pub Adds : (List ℕ → Type 0) → List ℕ → List ℕ → Type 0
 Adds P before after = (t : List ℕ) × P t × (after ≡ before ++ t)
@@ -34,17 +49,18 @@ abbrev pub No-form : ℕ → List ℕ → Type 0
 No-form place t = t ≡ refusal-line (fault-at NoForm place)
 
 -- the words behind the command, the first of which starts at byte `at`, in a line that ends at byte `end`
-abbrev pub Answered-file : ℕ → ℕ → List (List ℕ) → List ℕ → Type 0
-Answered-file at end [] t = No-form end t
-Answered-file at end (w ∷ []) t = ((f : List ℕ) × Bytes w f × Verdict f t) ⊎ (No-bytes w × No-form at t)
-Answered-file at end (w ∷ x ∷ ws) t =
+abbrev pub Answered-file : Command → ℕ → ℕ → List (List ℕ) → List ℕ → Type 0
+Answered-file k at end [] t = No-form end t
+Answered-file k at end (w ∷ []) t = ((f : List ℕ) × Bytes w f × Asked k f t) ⊎ (No-bytes w × No-form at t)
+Answered-file k at end (w ∷ x ∷ ws) t =
     (((f : List ℕ) × Bytes w f) × No-form (at + length w + 1) t) ⊎ (No-bytes w × No-form at t)
 
--- the words of a line that starts at byte `at` and ends at byte `end`: C and a plan file
+-- the words of a line that starts at byte `at` and ends at byte `end`: a command and a plan file
 abbrev pub Answered-words : ℕ → ℕ → List (List ℕ) → List ℕ → Type 0
 Answered-words at end [] t = No-form end t
 Answered-words at end (w ∷ ws) t =
-    ((w ≡ codes "C") × Answered-file (at + length w + 1) end ws t) ⊎ ((w ≢ codes "C") × No-form at t)
+    ((k : Command) × (w ≡ name-of k) × Answered-file k (at + length w + 1) end ws t)
+    ⊎ (((k : Command) → w ≢ name-of k) × No-form at t)
 
 -- a line that starts at byte `at`
 abbrev pub Answered : ℕ → List ℕ → List ℕ → Type 0

@@ -9,7 +9,9 @@ use Rattle.std.specs.declared.option.Option.the-variants.{Some, None}
 use Rattle.lines.specs.declared.lines.Way.{Way}
 use Rattle.plan.specs.declared.plans.Plan.{Plan}
 use Rattle.lines.specs.Lines.{serves}
+use Rattle.plan.specs.Files.{file-of}
 use Rattle.plan.specs.Rules.{lines-of, lowest}
+use Rattle.words.specs.Hex.{hex-of}
 
 -- a line's number, or a dash where there is none
 abbrev pub or-dash : Option ℕ → List ℕ
@@ -44,3 +46,7 @@ numbers-text p =
 -- the line for the plan, then a line for each house
 abbrev pub report-of : Plan → List ℕ
 report-of p = numbers-text p ++ houses-text p (p .draft .houses) 0
+
+-- the plan's file in hexadecimal capitals, on a line of its own
+abbrev pub file-text : Plan → List ℕ
+file-text p = hex-of (file-of (p .draft)) ++ (10 ∷ [])

@@ -3,16 +3,17 @@ ghost use mathlib.Core.List.{_++_};
 ghost use Rattle.std.specs.Of.String.{string-bytes};
 ghost use Rattle.std.specs.Vec.{made};
 ghost use Prim.Native.Nat.{_+_, _^_, _<_};
-ghost use lib.Chars.{codes};
 ghost use lib.ListN.{length};
-ghost use Rattle.std.specs.Orderings.{When};
 ghost use Rattle.words.specs.Parts.{lines, words};
-ghost use Rattle.installer_text.specs.Answers.{Adds, Answered, Answered-file, Printed, Verdict, refusal-line};
+ghost use Rattle.installer_text.specs.Answers.{Adds, Answered, Answered-file, Asked, Marking, Printed, Verdict, refusal-line};
+use crate::commands::Command;
+use crate::reports::file_line;
 use crate::reports::report;
 use fault::Cause;
 use fault::Fault;
 use fault::FaultDisplay;
 use plan::Plan;
+use marker::mark;
 use plan::read;
 use std::alloc::Global;
 use words::FromAlloc;
@@ -40,10 +41,34 @@ fn judge(text: &mut String, file: &[u8]) -> Result<(), NoMemory>
     }
 }
 
+// Adds the verdict on a file that is marked anew: the report on the marked plan and then its file, or why it is refused.
+fn mark_file(text: &mut String, file: &[u8]) -> Result<(), NoMemory>
+    ensures { λ r. ⌜ made r (λ _. Adds (Marking (now (file .entry))) (string-bytes (now (text .entry))) (string-bytes (now (text .exit)))) ⌝ }
+{
+    let mut plan = Plan::new();
+    match mark(file, &mut plan) {
+        Ok(()) => {
+            report(text, &plan)?;
+            file_line(text, &plan)
+        }
+        Err(fault) => refuse(text, fault),
+    }
+}
+
+// Adds what the command asks of the file.
+fn carry_out(text: &mut String, command: Command, file: &[u8]) -> Result<(), NoMemory>
+    ensures { λ r. ⌜ made r (λ _. Adds (Asked command (now (file .entry))) (string-bytes (now (text .entry))) (string-bytes (now (text .exit)))) ⌝ }
+{
+    match command {
+        Command::Check => judge(text, file),
+        Command::Mark => mark_file(text, file),
+    }
+}
+
 // Adds the answer to the words behind the command, the first of which starts at that byte of the input.
-fn answer_file(heap: Global, text: &mut String, rest: &[u8], at: usize) -> Result<(), NoMemory>
+fn answer_file(heap: Global, text: &mut String, command: Command, rest: &[u8], at: usize) -> Result<(), NoMemory>
     requires { ⌜ at + length (now rest) < 2 ^ 63 ⌝ }
-    ensures { λ r. ⌜ made r (λ _. Adds (Answered-file at (at + length (now (rest .entry))) (words (now (rest .entry)))) (string-bytes (now (text .entry))) (string-bytes (now (text .exit)))) ⌝ }
+    ensures { λ r. ⌜ made r (λ _. Adds (Answered-file command at (at + length (now (rest .entry))) (words (now (rest .entry)))) (string-bytes (now (text .entry))) (string-bytes (now (text .exit)))) ⌝ }
 {
     let end = part_end(rest, 0, b' ');
     match from_hex(heap, &rest[0..end])? {
@@ -52,17 +77,10 @@ fn answer_file(heap: Global, text: &mut String, rest: &[u8], at: usize) -> Resul
             if end < rest.len() {
                 refuse(text, Fault::new(Cause::NoForm, at + end + 1))
             } else {
-                judge(text, file.as_slice())
+                carry_out(text, command, file.as_slice())
             }
         }
     }
-}
-
-// Whether the word is the command to check a plan file.
-fn is_check(word: &[u8]) -> bool
-    ensures { λ r. ⌜ When r (now (word .entry) ≡ codes "C") (now (word .entry) ≡ codes "C" → ⊥) ⌝ }
-{
-    word.len() == 1 && word[0] == b'C'
 }
 
 // Adds the answer to a line that starts at that byte of the input.
@@ -71,11 +89,11 @@ fn answer(heap: Global, text: &mut String, line: &[u8], at: usize) -> Result<(),
     ensures { λ r. ⌜ made r (λ _. Adds (Answered at (now (line .entry))) (string-bytes (now (text .entry))) (string-bytes (now (text .exit)))) ⌝ }
 {
     let end = part_end(line, 0, b' ');
-    if !is_check(&line[0..end]) {
+    let Some(command) = Command::named(&line[0..end]) else {
         return refuse(text, Fault::new(Cause::NoForm, at));
-    }
+    };
     if end < line.len() {
-        answer_file(heap, text, &line[end + 1..], at + end + 1)
+        answer_file(heap, text, command, &line[end + 1..], at + end + 1)
     } else {
         refuse(text, Fault::new(Cause::NoForm, at + end))
     }

@@ -4,10 +4,12 @@ ghost use Prim.Native.Nat.{_<_};
 ghost use Rattle.std.specs.Of.String.{string-bytes};
 ghost use Rattle.std.specs.Vec.{made};
 ghost use Rattle.std.specs.declared.option.Option.the-variants.{Some};
-ghost use Rattle.installer_text.specs.Reports.{or-dash, numbers-text, house-text, report-of};
+ghost use Rattle.installer_text.specs.Reports.{file-text, or-dash, numbers-text, house-text, report-of};
 use lines::Way;
 use plan::Plan;
 use std::fmt;
+use words::to_hex;
+use words::FromAlloc;
 use words::FromFormat;
 use words::NoMemory;
 
@@ -60,5 +62,18 @@ pub fn report(text: &mut String, plan: &Plan) -> Result<(), NoMemory>
     for house in 0..houses {
         report_house(text, plan, house)?;
     }
+    Ok(())
+}
+
+// Adds the plan's file to the text in hexadecimal capitals, on a line of its own.
+pub fn file_line(text: &mut String, plan: &Plan) -> Result<(), NoMemory>
+    ensures { λ r. ⌜ made r (λ _. string-bytes (now (text .exit)) ≡ string-bytes (now (text .entry)) ++ file-text (now (plan .entry))) ⌝ }
+{
+    let mut buffer = [0; 441];
+    let Ok(length) = plan.write(&mut buffer) else {
+        return unreachable();
+    };
+    to_hex(text, &buffer[0..length])?;
+    text.push('\n')?;
     Ok(())
 }

@@ -1,7 +1,7 @@
 pub mod Accepted
 pub mod Bytes
 pub mod Counts
-mod Files
+pub mod Files
 pub mod Forms
 mod Lowest
 mod Records

@@ -4,6 +4,7 @@ mod memory;
 mod parts;
 
 pub use hex::from_hex;
+pub use hex::to_hex;
 pub use memory::FromAlloc;
 pub use memory::FromFormat;
 pub use memory::NoMemory;

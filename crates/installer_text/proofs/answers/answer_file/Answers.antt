@@ -9,7 +9,7 @@ use Rattle.std.specs.Of.String.{string-bytes}
 use Rattle.std.specs.Of.Vec.{vec-items}
 use Rattle.words.specs.Hex.{Bytes, Decoded, No-bytes}
 use Rattle.words.specs.Parts.{front, words}
-use Rattle.installer_text.specs.Answers.{Answered-file, Verdict, refusal-line}
+use Rattle.installer_text.specs.Answers.{Answered-file, Asked, refusal-line}
 use Rattle.installer_text.proofs.Added.{adds, adds-weaker}
 use Rattle.installer_text.proofs.Forms.{file-none, file-extra, file-only}
 use Rattle.installer_text.proofs.answers.answer_file.Needs as need
@@ -22,8 +22,8 @@ returns-in-None c =
     let e-is : e ≡ front 32 xs = c .part-end-end .ensures .place ∙ zero-add (front 32 xs) in
     let none : No-bytes (take (front 32 xs) xs) = subst (λ k. No-bytes (take k xs)) (sub-zero e ∙ e-is) (subst (Decoded (take (e - 0) xs)) (c .in-None .is) (c .in-Continue-from-hex .ensures tt)) in
     let v = c .new .result in
-    adds (c .refuse .result) (string-bytes (c .args .text .now)) (string-bytes (c .refuse .last .text)) (Answered-file at (at + length xs) (words xs)) (refusal-line v)
-    (file-none at xs (refusal-line v) none (ap refusal-line (c .new .ensures)))
+    adds (c .refuse .result) (string-bytes (c .args .text .now)) (string-bytes (c .refuse .last .text)) (Answered-file (c .args .command) at (at + length xs) (words xs)) (refusal-line v)
+    (file-none at xs (refusal-line v) (c .args .command) none (ap refusal-line (c .new .ensures)))
     (c .refuse .ensures)
 
 pub returns-then-end-rest : need.returns-then-end-rest
@@ -36,8 +36,8 @@ returns-then-end-rest c =
     let bytes : Bytes (take (front 32 xs) xs) f = subst (λ k. Bytes (take k xs) f) (sub-zero e ∙ e-is) (subst (Decoded (take (e - 0) xs)) (c .in-Some .is) (c .in-Continue-from-hex .ensures tt)) in
     let here : front 32 xs < length xs = subst (λ k. k < length xs) e-is (c .if-end-rest .taken) in
     let v = c .new-then-end-rest .result in
-    adds (c .refuse-then-end-rest .result) (string-bytes (c .args .text .now)) (string-bytes (c .refuse-then-end-rest .last .text)) (Answered-file at (at + length xs) (words xs)) (refusal-line v)
-    (file-extra at xs (refusal-line v) f here bytes (ap refusal-line (c .new-then-end-rest .ensures) ∙ ap (λ k. refusal-line (fault-at NoForm (at + k + 1))) e-is))
+    adds (c .refuse-then-end-rest .result) (string-bytes (c .args .text .now)) (string-bytes (c .refuse-then-end-rest .last .text)) (Answered-file (c .args .command) at (at + length xs) (words xs)) (refusal-line v)
+    (file-extra at xs (refusal-line v) (c .args .command) f here bytes (ap refusal-line (c .new-then-end-rest .ensures) ∙ ap (λ k. refusal-line (fault-at NoForm (at + k + 1))) e-is))
     (c .refuse-then-end-rest .ensures)
 
 pub returns : need.returns
@@ -49,6 +49,6 @@ returns c =
     let e-is : e ≡ front 32 xs = c .part-end-end .ensures .place ∙ zero-add (front 32 xs) in
     let bytes : Bytes (take (front 32 xs) xs) f = subst (λ k. Bytes (take k xs) f) (sub-zero e ∙ e-is) (subst (Decoded (take (e - 0) xs)) (c .in-Some .is) (c .in-Continue-from-hex .ensures tt)) in
     let last : length xs ≤ front 32 xs = subst (λ k. length xs ≤ k) e-is (c .if-end-rest .left) in
-    adds-weaker (c .judge .result) (string-bytes (c .args .text .now)) (string-bytes (c .judge .last .text)) (Verdict (c .as-slice .result .now)) (Answered-file at (at + length xs) (words xs))
-    (λ t verdict. file-only at xs t f last bytes (subst (λ g. Verdict g t) (c .as-slice .ensures .value) verdict))
-    (c .judge .ensures)
+    adds-weaker (c .carry-out .result) (string-bytes (c .args .text .now)) (string-bytes (c .carry-out .last .text)) (Asked (c .args .command) (c .as-slice .result .now)) (Answered-file (c .args .command) at (at + length xs) (words xs))
+    (λ t verdict. file-only at xs t (c .args .command) f last bytes (subst (λ g. Asked (c .args .command) g t) (c .as-slice .ensures .value) verdict))
+    (c .carry-out .ensures)
