@@ -12,8 +12,8 @@ use crate::reports::report;
 use fault::Cause;
 use fault::Fault;
 use fault::FaultDisplay;
-use plan::Plan;
 use marker::mark;
+use plan::Plan;
 use plan::read;
 use std::alloc::Global;
 use words::FromAlloc;
@@ -66,7 +66,13 @@ fn carry_out(text: &mut String, command: Command, file: &[u8]) -> Result<(), NoM
 }
 
 // Adds the answer to the words behind the command, the first of which starts at that byte of the input.
-fn answer_file(heap: Global, text: &mut String, command: Command, rest: &[u8], at: usize) -> Result<(), NoMemory>
+fn answer_file(
+    heap: Global,
+    text: &mut String,
+    command: Command,
+    rest: &[u8],
+    at: usize,
+) -> Result<(), NoMemory>
     requires { ⌜ at + length (now rest) < 2 ^ 63 ⌝ }
     ensures { λ r. ⌜ made r (λ _. Adds (Answered-file command at (at + length (now (rest .entry))) (words (now (rest .entry)))) (string-bytes (now (text .entry))) (string-bytes (now (text .exit)))) ⌝ }
 {

@@ -8,10 +8,10 @@ ghost use Rattle.installer_text.specs.Reports.{file-text, or-dash, numbers-tex
 use lines::Way;
 use plan::Plan;
 use std::fmt;
-use words::to_hex;
 use words::FromAlloc;
 use words::FromFormat;
 use words::NoMemory;
+use words::to_hex;
 
 // A line's number, or a dash where there is none.
 #[derive(Clone, Copy)]

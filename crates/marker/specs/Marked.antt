@@ -138,3 +138,9 @@ Complete found n cause (Err v) =
     × (v .place < n)
     × (isSome (found (v .place)) ≡ false)
     × ((g : ℕ) → 1 ≤ g → g < v .place → isSome (found g) ≡ true)
+
+-- both ways have their lines; or a house lacks its line from the head, or, where none does, its line to the head
+abbrev pub Both-complete : (ℕ → Option ℕ) → (ℕ → Option ℕ) → ℕ → Result (Unit {0}) Fault → Type 0
+Both-complete out home n (Ok _) = Complete out n NoWayFromHead (Ok tt) × Complete home n NoWayToHead (Ok tt)
+Both-complete out home n (Err v) =
+    Complete out n NoWayFromHead (Err v) ⊎ (Complete out n NoWayFromHead (Ok tt) × Complete home n NoWayToHead (Err v))

@@ -2,7 +2,7 @@ ghost use Prim.Native.Nat.{_≤_};
 ghost use mathlib.Core.Path.{_≡_};
 ghost use lib.ListN.{length};
 ghost use Rattle.std.specs.Results.{isErr};
-ghost use Rattle.marker.specs.Marked.{Complete, Mark-answer, Mark-draft, Mark-plan, Marks-again, Marks-plan-again, Refuses-cut-off};
+ghost use Rattle.marker.specs.Marked.{Both-complete, Complete, Mark-answer, Mark-draft, Mark-plan, Marks-again, Marks-plan-again, Refuses-cut-off};
 ghost use Rattle.marker.specs.Rounds.{entry-in};
 use crate::marks::remarked;
 use crate::rounds::Table;
@@ -27,14 +27,24 @@ fn check(table: &Table, houses: usize, cause: Cause) -> Result<(), Fault>
     Ok(())
 }
 
+// Refuses the lowest house to which there is no way from the head, and then the lowest from which there is none to it.
+fn check_both(direct: &Table, back: &Table, houses: usize) -> Result<(), Fault>
+    requires { ⌜ houses ≤ 48 ⌝ ∗ ⌜ length (now direct) ≡ 48 ⌝ ∗ ⌜ length (now back) ≡ 48 ⌝ }
+    ensures { λ r. ⌜ Both-complete (entry-in (now (direct .entry))) (entry-in (now (back .entry))) houses r ⌝ }
+{
+    match check(direct, houses, Cause::NoWayFromHead) {
+        Ok(()) => check(back, houses, Cause::NoWayToHead),
+        Err(fault) => Err(fault),
+    }
+}
+
 // The plan of the draft marked anew, or the lowest house that is cut off.
 fn plan_of(draft: &Draft) -> Result<Plan, Fault>
     ensures { λ r. ⌜ Mark-draft (now (draft .entry)) r ⌝ }
 {
     let direct = search(draft, Way::Direct);
     let back = search(draft, Way::Back);
-    check(&direct, draft.houses, Cause::NoWayFromHead)?;
-    check(&back, draft.houses, Cause::NoWayToHead)?;
+    check_both(&direct, &back, draft.houses)?;
     remarked(draft, &direct, &back).judge()
 }
 

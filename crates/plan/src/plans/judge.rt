@@ -4,6 +4,8 @@ ghost use lib.ListN.{length, getD};
 ghost use Rattle.std.specs.shelf.Lists.{countBy};
 ghost use Rattle.std.specs.Orderings.{When};
 ghost use Rattle.std.specs.Options.{Cases as BySome};
+ghost use Rattle.lines.specs.declared.lines.End.the-variants.{To};
+ghost use Rattle.lines.specs.declared.lines.Way.the-variants.{Back};
 ghost use Rattle.lines.specs.Lines.{blank, meets, serves, In-form};
 ghost use Rattle.plan.specs.Rules.{lines-of, due, Leads, First-server, No-server, Keeps};
 ghost use Rattle.plan.specs.Judged.{Counters-of, Recounted, Ready, Checked, Judged};
@@ -17,7 +19,8 @@ use lines::Way;
 
 // How many lines of the tree have the house at that end.
 fn count(lines: &[Line], way: Way, end: End, house: usize) -> usize
-    ensures { λ r. ⌜ r ≡ countBy (meets way end house) (now (lines .entry)) ⌝ }
+    ensures value { λ r. ⌜ r ≡ countBy (meets way end house) (now (lines .entry)) ⌝ }
+    ensures within { λ r. ⌜ r ≤ length (now (lines .entry)) ⌝ }
 {
     let mut count = 0;
     for line in lines {
@@ -60,6 +63,14 @@ fn leads(lines: &[Line], way: Way, houses: usize, house: usize) -> bool
     at == 0
 }
 
+// The number of back lines that enter the house.
+fn counter_of(lines: &[Line], house: usize) -> u8
+    requires { ⌜ length (now lines) ≤ 128 ⌝ }
+    ensures { λ r. ⌜ r ≡ countBy (meets Back To house) (now (lines .entry)) ⌝ }
+{
+    count(lines, Way::Back, End::To, house) as u8
+}
+
 // For each house the number of back lines that enter it, and 0 for what is no house.
 fn counters_of(lines: &[Line], houses: usize) -> [u8; 48]
     requires { ⌜ houses ≤ 48 ⌝ ∗ ⌜ length (now lines) ≤ 128 ⌝ }
@@ -67,7 +78,7 @@ fn counters_of(lines: &[Line], houses: usize) -> [u8; 48]
 {
     let mut counters = [0; 48];
     for house in 0..houses {
-        counters[house] = count(lines, Way::Back, End::To, house) as u8;
+        counters[house] = counter_of(lines, house);
     }
     counters
 }

@@ -17,8 +17,8 @@ returns-in-Continue-report c =
     let whole = report-of p ++ file-text p in
     adds (c .file-line .result) before after (Marking (c .args .file .now)) whole (inl (p, c .in-Ok .ensures tt .marks, refl))
     (made-weaker (c .file-line .result) (λ _. after ≡ string-bytes (c .report .last .text) ++ file-text p) (λ _. after ≡ before ++ whole)
-      (λ _ e. e ∙ ap (λ t. t ++ file-text p) (c .in-Continue-report .ensures tt) ∙ append-assoc before (report-of p) (file-text p))
-      (c .file-line .ensures))
+    (λ _ e. e ∙ ap (λ t. t ++ file-text p) (c .in-Continue-report .ensures tt) ∙ append-assoc before (report-of p) (file-text p))
+    (c .file-line .ensures))
 
 pub returns-in-Err : need.returns-in-Err
 returns-in-Err c =

@@ -24,9 +24,9 @@ returns c =
     let buffer = c .write .last .buffer in
     let n = c .in-Ok .length in
     let shown : string-bytes (c .to-hex .last .text) ≡ before ++ hex-of file =
-        c .in-Continue-to-hex .ensures tt
-        ∙ ap (λ k. before ++ hex-of (take k buffer)) (sub-zero n)
-        ∙ ap (λ xs. before ++ hex-of xs) (c .in-Ok .ensures tt .front) in
+    c .in-Continue-to-hex .ensures tt
+    ∙ ap (λ k. before ++ hex-of (take k buffer)) (sub-zero n)
+    ∙ ap (λ xs. before ++ hex-of xs) (c .in-Ok .ensures tt .front) in
     pushed (encode 10) shown (c .in-Continue-push .was tt) (c .push .ensures .bytes)
     ∙ append-assoc before (hex-of file) (encode 10)
     ∙ ap (λ t. before ++ (hex-of file ++ t)) (c .push .ensures .ascii (omega arith))

@@ -1,6 +1,6 @@
 use Prim.Native.Nat.{ℕ, _<_, _≤_}
 use mathlib.Core.Bool.{true}
-use mathlib.Core.Logic.{inl, inr}
+use mathlib.Core.Logic.{inl, inr, ⊎-elim}
 use mathlib.Core.Path.{_≡_}
 use Rattle.std.proofs.shelf.Results.{err-from-errBy}
 use Rattle.std.specs.Options.{isSome}
@@ -13,20 +13,17 @@ use Rattle.marker.specs.Rounds.{entry-in, Found}
 use Rattle.marker.proofs.Tabled.{by-way, first-cut, joined-up, marked-draft}
 use Rattle.marker.proofs.marking.plan_of.Needs as need
 
-pub returns-in-Break-check : need.returns-in-Break-check
-returns-in-Break-check c =
+pub returns-in-Break-check-both : need.returns-in-Break-check-both
+returns-in-Break-check-both c =
     let p = err-from-errBy (c .from-residual .result) (c .from-residual .ensures .1) in
-    let cut = c .in-Break-check .ensures tt in
-    rw (p .1, p .2)
-    (inl (cut .0, first-cut Way.Direct (c .args .draft .now) (entry-in (c .search-direct .result)) (c .search-direct .ensures .2) NoWayFromHead _ cut))
-
-pub returns-in-Break-check-2 : need.returns-in-Break-check-2
-returns-in-Break-check-2 c =
-    let p = err-from-errBy (c .from-residual-in-Break-check-2 .result) (c .from-residual-in-Break-check-2 .ensures .1) in
-    let cut = c .in-Break-check-2 .ensures tt in
     let d = c .args .draft .now in
+    let out = entry-in (c .search-direct .result) in
+    let home = entry-in (c .search-back .result) in
     rw (p .1, p .2)
-    (inr (cut .0, joined-up Way.Direct d (entry-in (c .search-direct .result)) (c .search-direct .ensures .2) (c .in-Continue-check .ensures tt), first-cut Way.Back d (entry-in (c .search-back .result)) (c .search-back .ensures .2) NoWayToHead _ cut))
+    (⊎-elim
+    (λ cut. inl (cut .0, first-cut Way.Direct d out (c .search-direct .ensures .2) NoWayFromHead _ cut))
+    (λ both. inr (both .1 .0, joined-up Way.Direct d out (c .search-direct .ensures .2) (both .0), first-cut Way.Back d home (c .search-back .ensures .2) NoWayToHead _ (both .1)))
+    (c .in-Break-check-both .ensures tt))
 
 pub returns : need.returns
 returns c =
@@ -45,5 +42,5 @@ returns c =
     is-found Way.Back = c .search-back .ensures .2
 
     there : (w : Way) (h : ℕ) → 1 ≤ h → h < c .args .draft .now .houses → isSome (by-way (entry-in (c .search-direct .result)) (entry-in (c .search-back .result)) w h) ≡ true
-    there Way.Direct = c .in-Continue-check .ensures tt
-    there Way.Back = c .in-Continue-check-2 .ensures tt
+    there Way.Direct = c .in-Continue-check-both .ensures tt .0
+    there Way.Back = c .in-Continue-check-both .ensures tt .1

@@ -18,5 +18,9 @@ loop-line-again c =
 
 pub returns : need.returns
 returns c =
-    c .loop-line .inv .0
-    ∙ ap (countBy (meets (c .args .way) (c .args .end) (c .args .house))) (take-all (c .loop-line .line-index) (c .args .lines .now) (omega arith))
+    record {
+      value =
+          c .loop-line .inv .0
+          ∙ ap (countBy (meets (c .args .way) (c .args .end) (c .args .house))) (take-all (c .loop-line .line-index) (c .args .lines .now) (omega arith));
+      within = omega (arith, c .loop-line .inv .1);
+    }

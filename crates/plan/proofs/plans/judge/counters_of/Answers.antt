@@ -3,9 +3,7 @@ use mathlib.Core.Logic.{_≢_}
 use mathlib.Core.Path.{_≡_, refl, sym, _∙_, ap}
 use native.Mathlib.Omega.{arith}
 use borrow.Author.Count.{below-more}
-use borrow.Author.Needs.{needs}
 use Rattle.std.proofs.shelf.Lists.{getD-set-same, getD-set-other, length-set}
-use Rattle.std.proofs.shelf.Sums.{countBy-le-length}
 use Rattle.std.specs.shelf.Lists.{countBy}
 use Rattle.lines.specs.declared.lines.End.{End}
 use Rattle.lines.specs.declared.lines.Way.{Way}
@@ -16,21 +14,15 @@ use Rattle.plan.proofs.plans.judge.counters_of.Needs as need
 pub loop-house-holds : need.loop-house-holds
 loop-house-holds c = (refl, (λ h lt. absurd (omega arith)), (λ h _. all-alike 0 48 h))
 
-pub cast-counters : need.cast-counters
-cast-counters c =
-    let small : c .count .result < 256 =
-    omega (arith, c .count .ensures, countBy-le-length (meets Way.Back End.To (c .loop-house .house)) (c .args .lines .now), c .pre .1) in
-    search needs
-
 pub loop-house-again : need.loop-house-again
 loop-house-again c =
     let cs = c .loop-house .counters in
     let i = c .loop-house .house in
-    let x = c .count .result in (
+    let x = c .counter-of .result in (
       length-set cs i x ∙ c .loop-house .inv .0,
       below-more _ i
           (λ k lt. let ne : k ≢ i = omega arith in getD-set-other cs i k x 0 ne ∙ c .loop-house .inv .1 k lt)
-          (getD-set-same cs i x 0 (omega (arith, c .loop-house .inv .0)) ∙ c .count .ensures),
+          (getD-set-same cs i x 0 (omega (arith, c .loop-house .inv .0)) ∙ c .counter-of .ensures),
       λ k past. let ne : k ≢ i = omega arith in getD-set-other cs i k x 0 ne ∙ c .loop-house .inv .2 k (omega arith),
     )
 
