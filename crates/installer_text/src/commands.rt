@@ -1,4 +1,4 @@
-ghost use mathlib.Core.Path.{_≡_};
+ghost use mathlib.Core.List.{[], _∷_};
 ghost use Rattle.installer_text.specs.Commands.{Named};
 
 // What a line asks of a plan file: to check it as it is, or to mark it anew.
@@ -13,10 +13,17 @@ impl Command {
     pub fn named(word: &[u8]) -> Option<Command>
         ensures { λ r. ⌜ Named (now (word .entry)) r ⌝ }
     {
-        if word.len() != 1 {
-            return None;
+        if word.len() == 1 {
+            Command::of_letter(word[0])
+        } else {
+            None
         }
-        match word[0] {
+    }
+
+    fn of_letter(letter: u8) -> Option<Command>
+        ensures { λ r. ⌜ Named (letter ∷ []) r ⌝ }
+    {
+        match letter {
             b'C' => Some(Command::Check),
             b'M' => Some(Command::Mark),
             _ => None,

@@ -1,5 +1,5 @@
 ghost use mathlib.Core.Path.{_≡_};
-ghost use mathlib.Core.List.{_++_};
+ghost use mathlib.Core.List.{[], _∷_, _++_};
 ghost use Prim.Native.Nat.{_<_};
 ghost use Rattle.std.specs.Of.String.{string-bytes};
 ghost use Rattle.std.specs.Vec.{made};
@@ -65,6 +65,14 @@ pub fn report(text: &mut String, plan: &Plan) -> Result<(), NoMemory>
     Ok(())
 }
 
+// Ends the line.
+fn end_line(text: &mut String) -> Result<(), NoMemory>
+    ensures { λ r. ⌜ made r (λ _. string-bytes (now (text .exit)) ≡ string-bytes (now (text .entry)) ++ (10 ∷ [])) ⌝ }
+{
+    writeln!(text, "")?;
+    Ok(())
+}
+
 // Adds the plan's file to the text in hexadecimal capitals, on a line of its own.
 pub fn file_line(text: &mut String, plan: &Plan) -> Result<(), NoMemory>
     ensures { λ r. ⌜ made r (λ _. string-bytes (now (text .exit)) ≡ string-bytes (now (text .entry)) ++ file-text (now (plan .entry))) ⌝ }
@@ -74,6 +82,5 @@ pub fn file_line(text: &mut String, plan: &Plan) -> Result<(), NoMemory>
         return unreachable();
     };
     to_hex(text, &buffer[0..length])?;
-    text.push('\n')?;
-    Ok(())
+    end_line(text)
 }
