@@ -47,7 +47,7 @@ fn remarked_table(draft: &Draft, direct: &Table, back: &Table) -> [Line; 128]
 }
 
 // The draft with each line marked anew and the counters that follow.
-pub fn remarked(draft: &Draft, direct: &Table, back: &Table) -> Draft
+pub(crate) fn remarked(draft: &Draft, direct: &Table, back: &Table) -> Draft
     requires { ⌜ length (now direct) ≡ 48 ⌝ ∗ ⌜ length (now back) ≡ 48 ⌝ }
     ensures { λ r. ⌜ Remarked-by (now (draft .entry)) (entry-in (now (direct .entry))) (entry-in (now (back .entry))) r ⌝ }
 {

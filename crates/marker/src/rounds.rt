@@ -10,10 +10,10 @@ use lines::Way;
 use plan::Draft;
 
 // For each house the line that leads one step towards the head, where it was found. The head has none.
-pub type Table = [Option<usize>; 48];
+pub(crate) type Table = [Option<usize>; 48];
 
 // Whether the table has a line for the house.
-pub fn has_line(table: &Table, house: usize) -> bool
+pub(crate) fn has_line(table: &Table, house: usize) -> bool
     requires { ⌜ length (now table) ≡ 48 ⌝ }
     ensures { λ r. ⌜ r ≡ isSome (entry-in (now (table .entry)) house) ⌝ }
 {
@@ -66,7 +66,7 @@ fn search_lines(lines: &[Line], way: Way, houses: usize) -> Table
 }
 
 // The search over the lines of a draft.
-pub fn search(draft: &Draft, way: Way) -> Table
+pub(crate) fn search(draft: &Draft, way: Way) -> Table
     ensures { λ r. ⌜ Searched way (lines-of (now (draft .entry))) (now (draft .entry) .houses) r ⌝ }
 {
     search_lines(draft.list(), way, draft.houses)

@@ -20,6 +20,7 @@ use Rattle.lines.specs.Lines.{blank, house-at, beyond, meets, serves}
 abbrev pub lines-of : Draft → List Line
 lines-of d = take (d .lines) (d .records)
 
+-- the next number, where there is one
 abbrev pub one-up : Option ℕ → Option ℕ
 one-up None = None
 one-up (Some i) = Some (suc i)

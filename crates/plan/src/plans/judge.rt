@@ -32,7 +32,7 @@ fn count(lines: &[Line], way: Way, end: End, house: usize) -> usize
 }
 
 // The lowest-numbered line of the tree that serves the house.
-pub fn server(lines: &[Line], way: Way, house: usize) -> Option<usize>
+pub(crate) fn server(lines: &[Line], way: Way, house: usize) -> Option<usize>
     ensures { λ r. ⌜ BySome r (No-server way (now (lines .entry)) house) (First-server way (now (lines .entry)) house) ⌝ }
 {
     for i in 0..lines.len() {

@@ -5,7 +5,7 @@ use crate::plans::Plan;
 use fault::Fault;
 
 // The plan whose file this is, or why the file is refused.
-pub fn plan_in(file: &[u8]) -> Result<Plan, Fault>
+pub(crate) fn plan_in(file: &[u8]) -> Result<Plan, Fault>
     ensures reads { λ r. ⌜ Read-plan (now (file .entry)) r ⌝ }
     ensures own { λ r. ⌜ Own-plan (now (file .entry)) r ⌝ }
     ensures trees { λ r. ⌜ Accepts-trees (now (file .entry)) (isOk r) ⌝ }
