@@ -1,15 +1,14 @@
 -- What the rounds of the search find: after s rounds a house has its chosen line if its distance is at most s, and
 -- otherwise all its trails are longer than s.
 use Prim.Native.Nat.{ℕ, zero, suc, _+_, _-_, _<_, _≤_}
-use mathlib.Core.Bool.{Bool, true, false, _&&_, _||_}
+use mathlib.Core.Bool.{Bool, true, false}
 use mathlib.Core.List.{List, [], _∷_}
 use mathlib.Core.Logic.{_⊎_, inl, inr, ⊎-elim}
-use mathlib.Core.Path.{_≡_, refl, sym, _∙_, ap, subst}
+use mathlib.Core.Path.{_≡_, refl, sym, _∙_, subst, subst₂}
 use native.Mathlib.Omega.{arith}
 use lib.Dec.{eqb}
 use lib.ListN.{length, getD}
-use Rattle.std.proofs.shelf.Tests.{and-from, and-parts, cases-bool, cases-eq, cases-lt, both-ways, eq-eqb, eqb-true, false≢true, or-cases, or-left, or-right}
-use Rattle.std.specs.Options.{isSome}
+use Rattle.std.proofs.shelf.Tests.{and-from, and-parts, both-ways, cases-bool, cases-eq, cases-lt, cond-false, cond-true, eq-eqb, eqb-true, false≢true, ne-eqb}
 use Rattle.std.specs.declared.option.Option.{Option}
 use Rattle.std.specs.declared.option.Option.the-variants.{Some, None}
 use Rattle.lines.proofs.Depths.{shallow}
@@ -17,8 +16,9 @@ use Rattle.lines.proofs.Trails.{Trail, turned, turned-length, trail-route, rout
 use Rattle.lines.specs.declared.lines.Line.{Line}
 use Rattle.lines.specs.declared.lines.Way.{Way}
 use Rattle.lines.specs.Lines.{blank, house-at, near, beyond, In-form}
+use Rattle.marker.specs.declared.rounds.Step.{Step}
 use Rattle.marker.specs.Distances.{any-line, Distance, Cut-off, Nearer, Chosen}
-use Rattle.marker.specs.Rounds.{reached, steps-from, Next, Found}
+use Rattle.marker.specs.Rounds.{distance-is, stands, steps-from, Next, Found}
 
 -- DISTANCES BY TRAILS
 
@@ -69,17 +69,21 @@ module _ (w : Way) (xs : List Line) where
   -- ENTRIES
 
   -- after s rounds
-  abbrev pub Entry : ℕ → ℕ → Option ℕ → Type 0
-  Entry s h (Some i) = (d : ℕ) × (d < s) × Away w xs h (suc d) × Chosen w xs h i
+  abbrev pub Entry : ℕ → ℕ → Option Step → Type 0
+  Entry s h (Some step) = (step .distance ≤ s) × Away w xs h (step .distance) × Chosen w xs h (step .line)
   Entry s h None = (is : List ℕ) → Trail w any-line xs h is → s < length is
 
-  entry-away : (s g : ℕ) (o : Option ℕ) → Entry s g o → isSome o ≡ true → (e : ℕ) × (e ≤ s) × Away w xs g e
-  entry-away s g (Some i) (d, lt, away, _) e = (suc d, omega arith, away)
-  entry-away s g None none e = absurd (false≢true e)
+  entry-at : (s g : ℕ) (o : Option Step) → Entry s g o → distance-is o s ≡ true → Away w xs g s
+  entry-at s g (Some step) (le, away, _) e = subst (Away w xs g) (eqb-true (step .distance) s e) away
+  entry-at s g None none e = absurd (false≢true e)
 
-  entry-some : (s g : ℕ) (o : Option ℕ) → Entry s g o → (is : List ℕ) → Trail w any-line xs g is → length is ≤ s → isSome o ≡ true
-  entry-some s g (Some i) entry is t le = refl
-  entry-some s g None none is t le = absurd (omega (arith, none is t))
+  entry-is : (s g : ℕ) (o : Option Step) → Entry s g o → Away w xs g s → distance-is o s ≡ true
+  entry-is s g (Some step) (le, away, _) at = eq-eqb (step .distance) s (one-distance g (step .distance) s away at)
+  entry-is s g None none at = absurd (omega (arith, none (at .0 .0) (at .0 .2), at .0 .1))
+
+  entry-within : (s g : ℕ) (o : Option Step) → Entry s g o → (is : List ℕ) → Trail w any-line xs g is → length is ≤ s → (e : ℕ) × (e ≤ s) × Away w xs g e
+  entry-within s g (Some step) (le, away, _) is t short = (step .distance, le, away)
+  entry-within s g None none is t short = absurd (omega (arith, none is t))
 
   pub entry-start : (h : ℕ) → 1 ≤ h → Entry 0 h None
   entry-start h far [] e = absurd (omega arith)
@@ -89,61 +93,82 @@ module _ (w : Way) (xs : List Line) where
     ends : (i : ℕ) → i < length xs → house-at (beyond w) (getD xs i blank) < n
     ends i h = end-below w n (getD xs i blank) (form i h)
 
-    module _ (s : ℕ) (found : ℕ → Option ℕ) (ok : (g : ℕ) → 1 ≤ g → g < n → Entry s g (found g)) where
-      reached-away : (g : ℕ) → g < n → reached found g ≡ true → (e : ℕ) × (e ≤ s) × Away w xs g e
-      reached-away g lt there =
+    module _ (s : ℕ) (found : ℕ → Option Step) (ok : (g : ℕ) → 1 ≤ g → g < n → Entry s g (found g)) where
+      stands-away : (g : ℕ) → g < n → stands found s g ≡ true → Away w xs g s
+      stands-away g lt there =
+          ⊎-elim
+          (λ e.
+          let none : s ≡ 0 = eqb-true s 0 (sym (cond-true (eqb g 0) (eqb s 0) (distance-is (found g) s) (eq-eqb g 0 e)) ∙ there) in
+          subst₂ (Away w xs) (sym e) (sym none) head-away)
+          (λ far. entry-at s g (found g) (ok g (omega arith) lt) (sym (cond-false (eqb g 0) (eqb s 0) (distance-is (found g) s) (ne-eqb g 0 far)) ∙ there))
+          (cases-eq g 0)
+
+      away-stands : (g : ℕ) → g < n → Away w xs g s → stands found s g ≡ true
+      away-stands g lt at =
+          ⊎-elim
+          (λ e.
+          let none : s ≡ 0 = one-distance 0 s 0 (subst (λ k. Away w xs k s) e at) head-away in
+          cond-true (eqb g 0) (eqb s 0) (distance-is (found g) s) (eq-eqb g 0 e) ∙ eq-eqb s 0 none)
+          (λ far. cond-false (eqb g 0) (eqb s 0) (distance-is (found g) s) (ne-eqb g 0 far) ∙ entry-is s g (found g) (ok g (omega arith) lt) at)
+          (cases-eq g 0)
+
+      within : (g : ℕ) → g < n → (is : List ℕ) → Trail w any-line xs g is → length is ≤ s → (e : ℕ) × (e ≤ s) × Away w xs g e
+      within g lt is t short =
           ⊎-elim
           (λ e. (0, omega arith, subst (λ k. Away w xs k 0) (sym e) head-away))
-          (λ far. entry-away s g (found g) (ok g (omega arith) lt) (⊎-elim (λ e. absurd (far (eqb-true g 0 e))) (λ e. e) (or-cases (eqb g 0) (isSome (found g)) there)))
+          (λ far. entry-within s g (found g) (ok g (omega arith) lt) is t short)
           (cases-eq g 0)
 
-      trail-reached : (g : ℕ) → g < n → (is : List ℕ) → Trail w any-line xs g is → length is ≤ s → reached found g ≡ true
-      trail-reached g lt is t le =
+      stepping : (h i : ℕ) → i < length xs → house-at (near w) (getD xs i blank) ≡ h → Away w xs (house-at (beyond w) (getD xs i blank)) s → steps-from w found s h (getD xs i blank) ≡ true
+      stepping h i lt at away =
+          and-from (eqb (house-at (near w) (getD xs i blank)) h) (stands found s (house-at (beyond w) (getD xs i blank))) (eq-eqb _ h at) (away-stands _ (ends i lt) away)
+
+      longer : (h : ℕ) → 1 ≤ h → Entry s h None → ((j : ℕ) → j < length xs → steps-from w found s h (getD xs j blank) ≡ true → ⊥) → (is : List ℕ) → Trail w any-line xs h is → suc s < length is
+      longer h far none no-step [] e = absurd (omega arith)
+      longer h far none no-step (i ∷ is) (lt, ok-i, at, t) =
           ⊎-elim
-          (λ e. or-left (eqb g 0) (isSome (found g)) (eq-eqb g 0 e))
-          (λ far. or-right (eqb g 0) (isSome (found g)) (entry-some s g (found g) (ok g (omega arith) lt) is t le))
-          (cases-eq g 0)
-
-      stepping : (h i : ℕ) → i < length xs → house-at (near w) (getD xs i blank) ≡ h → (is : List ℕ) → Trail w any-line xs (house-at (beyond w) (getD xs i blank)) is → length is ≤ s → steps-from w found h (getD xs i blank) ≡ true
-      stepping h i lt at is t le =
-          and-from (eqb (house-at (near w) (getD xs i blank)) h) (reached found (house-at (beyond w) (getD xs i blank))) (eq-eqb _ h at) (trail-reached _ (ends i lt) is t le)
-
-      longer : (h : ℕ) → 1 ≤ h → ((j : ℕ) → j < length xs → steps-from w found h (getD xs j blank) ≡ true → ⊥) → (is : List ℕ) → Trail w any-line xs h is → suc s < length is
-      longer h far no-step [] e = absurd (omega arith)
-      longer h far no-step (i ∷ is) (lt, ok-i, at, t) =
-          ⊎-elim (λ short. absurd (no-step i lt (stepping h i lt at is t (omega arith)))) (λ long. omega arith) (cases-lt (length is) (suc s))
-
-      pub next-entry : (h : ℕ) → 1 ≤ h → (f o : Option ℕ) → Entry s h f → Next w xs found h f o → Entry (suc s) h o
-      next-entry h far (Some i) o (d, lt, away, chosen) e = subst (Entry (suc s) h) (sym e) (d, omega arith, away, chosen)
-      next-entry h far None None none no-step = longer h far no-step
-      next-entry h far None (Some i) none (lt, step, low) =
+          (λ short.
           let g = house-at (beyond w) (getD xs i blank) in
-          let parts = and-parts (eqb (house-at (near w) (getD xs i blank)) h) (reached found g) step in
+          let near-g = within g (ends i lt) is t (omega arith) in
+          let js = near-g .2 .0 .0 in
+          let last : near-g .0 ≡ s = omega (arith, near-g .1, near-g .2 .0 .1, none (i ∷ js) (lt, refl, at, near-g .2 .0 .2)) in
+          absurd (no-step i lt (stepping h i lt at (subst (Away w xs g) last (near-g .2)))))
+          (λ long. omega arith)
+          (cases-lt (length is) (suc s))
+
+      pub next-entry : (h : ℕ) → 1 ≤ h → (f o : Option Step) → Entry s h f → Next w xs found s h f o → Entry (suc s) h o
+      next-entry h far (Some step) o (le, away, chosen) e = subst (Entry (suc s) h) (sym e) (omega arith, away, chosen)
+      next-entry h far None None none no-step = longer h far none no-step
+      next-entry h far None (Some step) none (dist, lt, stepped, low) =
+          let i = step .line in
+          let g = house-at (beyond w) (getD xs i blank) in
+          let parts = and-parts (eqb (house-at (near w) (getD xs i blank)) h) (stands found s g) stepped in
           let at : house-at (near w) (getD xs i blank) ≡ h = eqb-true (house-at (near w) (getD xs i blank)) h (parts .0) in
-          let g-away = reached-away g (ends i lt) (parts .1) in
-          let is = g-away .2 .0 .0 in
-          let t : Trail w any-line xs h (i ∷ is) = (lt, refl, at, g-away .2 .0 .2) in
-          let last : g-away .0 ≡ s = omega (arith, g-away .1, g-away .2 .0 .1, none (i ∷ is) t) in
-          let g-at : Away w xs g s = subst (Away w xs g) last (g-away .2) in
-          let h-at : Away w xs h (suc s) = ((i ∷ is, omega (arith, last, g-away .2 .0 .1), t), λ js u. none js u) in (
-            s,
-            omega arith,
-            h-at,
+          let g-at = stands-away g (ends i lt) (parts .1) in
+          let is = g-at .0 .0 in
+          let h-at : Away w xs h (suc s) = ((i ∷ is, omega (arith, g-at .0 .1), (lt, refl, at, g-at .0 .2)), λ js u. none js u) in
+          let dist-is : suc s ≡ step .distance = omega (arith, dist) in (
+            omega (arith, dist),
+            subst (Away w xs h) dist-is h-at,
             (
               (lt, at, (s, away-distance g s g-at, away-distance h (suc s) h-at)),
               λ j below nearer.
-                  let d-is = one-distance h (suc s) (suc (nearer .2 .0)) h-at (distance-away h (suc (nearer .2 .0)) (nearer .2 .2)) in
-                  let j-at = distance-away _ (nearer .2 .0) (nearer .2 .1) in
-                  low j below (stepping h j (nearer .0) (nearer .1) (j-at .0 .0) (j-at .0 .2) (omega (arith, d-is, j-at .0 .1))),
+                  let d-is = one-distance h (suc (nearer .2 .0)) (suc s) (distance-away h (suc (nearer .2 .0)) (nearer .2 .2)) h-at in
+                  let same : nearer .2 .0 ≡ s = omega (arith, d-is) in
+                  low j below (stepping h j (nearer .0) (nearer .1) (subst (Away w xs _) same (distance-away _ (nearer .2 .0) (nearer .2 .1)))),
             ),
           )
 
       -- some entry follows each
-      follow : (h : ℕ) (f : Option ℕ) → (o : Option ℕ) × Next w xs found h f o
-      follow h (Some i) = (Some i, refl)
-      follow h None = ⊎-elim (λ first. (Some (first .0), (first .1, first .2, first .3))) (λ none. (None, none)) (pick (steps-from w found h) xs)
+      follow : (h : ℕ) (f : Option Step) → (o : Option Step) × Next w xs found s h f o
+      follow h (Some step) = (Some step, refl)
+      follow h None =
+          ⊎-elim
+          (λ first. (Some (record { distance = s + 1; line = first .0 }), (refl, first .1, first .2, first .3)))
+          (λ none. (None, none))
+          (pick (steps-from w found s h) xs)
 
-    entries : (s : ℕ) → (found : ℕ → Option ℕ) × ((g : ℕ) → 1 ≤ g → g < n → Entry s g (found g))
+    entries : (s : ℕ) → (found : ℕ → Option Step) × ((g : ℕ) → 1 ≤ g → g < n → Entry s g (found g))
     entries zero = ((λ _. None), λ g far lt. entry-start g far)
     entries (suc s) =
         let old = entries s in (
@@ -160,8 +185,8 @@ module _ (w : Way) (xs : List Line) where
         (λ far. told (entries s .0 g) (entries s .1 g (omega arith) lt))
         (cases-eq g 0)
       where
-        told : (o : Option ℕ) → Entry s g o → ((e : ℕ) × (e ≤ s) × Away w xs g e) ⊎ ((is : List ℕ) → Trail w any-line xs g is → s < length is)
-        told (Some i) (d, l, away, _) = inl (suc d, omega arith, away)
+        told : (o : Option Step) → Entry s g o → ((e : ℕ) × (e ≤ s) × Away w xs g e) ⊎ ((is : List ℕ) → Trail w any-line xs g is → s < length is)
+        told (Some step) (le, away, _) = inl (step .distance, le, away)
         told None none = inr none
 
     away-down : (h k : ℕ) → Away w xs h (suc k) → (g : ℕ) × (g < n) × Away w xs g k
@@ -214,8 +239,8 @@ module _ (w : Way) (xs : List Line) where
         (known (length is) h lt)
 
     -- after n - 1 rounds the search is over
-    pub entry-found : (h : ℕ) → h < n → (o : Option ℕ) → Entry (n - 1) h o → Found w xs h o
-    entry-found h lt (Some i) (d, l, away, chosen) = chosen
+    pub entry-found : (h : ℕ) → h < n → (o : Option Step) → Entry (n - 1) h o → Found w xs h o
+    entry-found h lt (Some step) (le, away, chosen) = chosen
     entry-found h lt None none = λ is walk.
         let near-e = near-by h lt (turned w is) (route-trail any-line xs w h is walk) in
         omega (arith, near-e .1, near-e .2 .0 .1, none (near-e .2 .0 .0) (near-e .2 .0 .2))

@@ -25,6 +25,7 @@ use Rattle.plan.specs.declared.drafts.Draft.{Draft}
 use Rattle.plan.specs.declared.plans.Plan.{Plan}
 use Rattle.plan.specs.Judged.{Judged}
 use Rattle.plan.specs.Rules.{lines-of}
+use Rattle.marker.specs.declared.rounds.Step.{Step}
 use Rattle.marker.specs.Distances.{Chosen, Cut-off}
 use Rattle.marker.specs.Marked.{takes, remark-of, Complete, First-cut, Joined-up, Mark-draft, Remarked, Remarked-by, Same-ends}
 use Rattle.marker.specs.Rounds.{Found}
@@ -38,25 +39,25 @@ near-below Way.Back n l form = form .0
 -- AN ENTRY OF A TABLE
 
 module _ (w : Way) (xs : List Line) (h : ℕ) where
-  found-chosen : (o : Option ℕ) → Found w xs h o → isSome o ≡ true → (i : ℕ) × Chosen w xs h i
-  found-chosen (Some i) chosen e = (i, chosen)
+  found-chosen : (o : Option Step) → Found w xs h o → isSome o ≡ true → (i : ℕ) × Chosen w xs h i
+  found-chosen (Some step) chosen e = (step .line, chosen)
   found-chosen None cut e = absurd (false≢true e)
 
-  found-cut : (o : Option ℕ) → Found w xs h o → isSome o ≡ false → Cut-off w xs h
-  found-cut (Some i) chosen e = absurd (true≢false e)
+  found-cut : (o : Option Step) → Found w xs h o → isSome o ≡ false → Cut-off w xs h
+  found-cut (Some step) chosen e = absurd (true≢false e)
   found-cut None cut e = cut
 
-  takes-chosen : (i : ℕ) (o : Option ℕ) → Found w xs h o → takes o i ≡ true → Chosen w xs h i
-  takes-chosen i (Some j) chosen e = subst (Chosen w xs h) (eqb-true j i e) chosen
+  takes-chosen : (i : ℕ) (o : Option Step) → Found w xs h o → takes o i ≡ true → Chosen w xs h i
+  takes-chosen i (Some step) chosen e = subst (Chosen w xs h) (eqb-true (step .line) i e) chosen
   takes-chosen i None cut e = absurd (false≢true e)
 
-  chosen-takes : (i : ℕ) (o : Option ℕ) → Found w xs h o → Chosen w xs h i → takes o i ≡ true
-  chosen-takes i (Some j) chosen here = eq-eqb j i (one-chosen w xs h j i chosen here)
+  chosen-takes : (i : ℕ) (o : Option Step) → Found w xs h o → Chosen w xs h i → takes o i ≡ true
+  chosen-takes i (Some step) chosen here = eq-eqb (step .line) i (one-chosen w xs h (step .line) i chosen here)
   chosen-takes i None cut here = absurd (chosen-joined w xs h i here cut)
 
 -- A WHOLE TABLE
 
-module _ (w : Way) (d : Draft) (found : ℕ → Option ℕ) (is-found : (h : ℕ) → 1 ≤ h → h < d .houses → Found w (lines-of d) h (found h)) where
+module _ (w : Way) (d : Draft) (found : ℕ → Option Step) (is-found : (h : ℕ) → 1 ≤ h → h < d .houses → Found w (lines-of d) h (found h)) where
   pub all-chosen : ((h : ℕ) → 1 ≤ h → h < d .houses → isSome (found h) ≡ true) → (h : ℕ) → 1 ≤ h → h < d .houses → (i : ℕ) × Chosen w (lines-of d) h i
   all-chosen there h far lt = found-chosen w (lines-of d) h (found h) (is-found h far lt) (there h far lt)
 
@@ -81,7 +82,7 @@ module _ (w : Way) (d : Draft) (found : ℕ → Option ℕ) (is-found : (h : ℕ
 
 -- THE MARKS BY THE TABLES
 
-abbrev pub by-way : (ℕ → Option ℕ) → (ℕ → Option ℕ) → Way → ℕ → Option ℕ
+abbrev pub by-way : (ℕ → Option Step) → (ℕ → Option Step) → Way → ℕ → Option Step
 by-way out home Way.Direct = out
 by-way out home Way.Back = home
 
@@ -97,11 +98,11 @@ back-marked true false = refl
 back-marked false true = refl
 back-marked false false = refl
 
-remark-takes : (out home : ℕ → Option ℕ) (w : Way) (i : ℕ) (l : Line) → marked w (remark-of out home i l .marks) ≡ takes (by-way out home w (house-at (near w) l)) i
+remark-takes : (out home : ℕ → Option Step) (w : Way) (i : ℕ) (l : Line) → marked w (remark-of out home i l .marks) ≡ takes (by-way out home w (house-at (near w) l)) i
 remark-takes out home Way.Direct i l = direct-marked (takes (out (l .to)) i) (takes (home (l .from)) i)
 remark-takes out home Way.Back i l = back-marked (takes (out (l .to)) i) (takes (home (l .from)) i)
 
-module _ (d e : Draft) (out home : ℕ → Option ℕ) (rem : Remarked-by d out home e) (head : (w : Way) → by-way out home w 0 ≡ None) (is-found : (w : Way) (h : ℕ) → 1 ≤ h → h < d .houses → Found w (lines-of d) h (by-way out home w h)) where
+module _ (d e : Draft) (out home : ℕ → Option Step) (rem : Remarked-by d out home e) (head : (w : Way) → by-way out home w 0 ≡ None) (is-found : (w : Way) (h : ℕ) → 1 ≤ h → h < d .houses → Found w (lines-of d) h (by-way out home w h)) where
   line-is : (i : ℕ) → i < d .lines → getD (lines-of e) i blank ≡ remark-of out home i (getD (lines-of d) i blank)
   line-is i lt =
       getD-take (e .lines) (e .records) i blank (omega (arith, rem .1))

@@ -26,6 +26,7 @@ use Rattle.plan.specs.declared.rules.Rule.{Rule}
 use Rattle.plan.specs.Files.{file-of, Refused}
 use Rattle.plan.specs.Judged.{Kept}
 use Rattle.plan.specs.Rules.{lines-of}
+use Rattle.marker.specs.declared.rounds.Step.{Step}
 use Rattle.marker.specs.Distances.{Chosen, Cut-off}
 
 -- THE MARKS
@@ -106,22 +107,22 @@ Marks-again f r q = (p : Plan) (d : Draft) → Remarked d (p .draft) → f ≡ f
 -- BY TABLES OF LINES
 
 -- the table's line for the house is that line
-abbrev pub takes : Option ℕ → ℕ → Bool
-takes (Some j) i = eqb j i
+abbrev pub takes : Option Step → ℕ → Bool
+takes (Some step) i = eqb (step .line) i
 takes None i = false
 
 -- the line i marked by what its ends take
-abbrev pub remark-of : (ℕ → Option ℕ) → (ℕ → Option ℕ) → ℕ → Line → Line
+abbrev pub remark-of : (ℕ → Option Step) → (ℕ → Option Step) → ℕ → Line → Line
 remark-of out home i l =
     record { from = l .from; to = l .to; marks = marks-of (takes (out (l .to)) i) (takes (home (l .from)) i) }
 
-abbrev pub Retabled : Draft → (ℕ → Option ℕ) → (ℕ → Option ℕ) → List Line → Type 0
+abbrev pub Retabled : Draft → (ℕ → Option Step) → (ℕ → Option Step) → List Line → Type 0
 Retabled d out home ls =
     (length ls ≡ 128)
     × ((i : ℕ) → i < d .lines → getD ls i blank ≡ remark-of out home i (getD (d .records) i blank))
     × ((i : ℕ) → d .lines ≤ i → getD ls i blank ≡ getD (d .records) i blank)
 
-abbrev pub Remarked-by : Draft → (ℕ → Option ℕ) → (ℕ → Option ℕ) → Draft → Type 0
+abbrev pub Remarked-by : Draft → (ℕ → Option Step) → (ℕ → Option Step) → Draft → Type 0
 Remarked-by d out home e =
     (e .houses ≡ d .houses)
     × (e .lines ≡ d .lines)
@@ -130,7 +131,7 @@ Remarked-by d out home e =
     × Kept Rule.Counters e
 
 -- each house but the head has its line, or the lowest that has none is named
-abbrev pub Complete : (ℕ → Option ℕ) → ℕ → Cause → Result (Unit {0}) Fault → Type 0
+abbrev pub Complete : (ℕ → Option Step) → ℕ → Cause → Result (Unit {0}) Fault → Type 0
 Complete found n cause (Ok _) = (h : ℕ) → 1 ≤ h → h < n → isSome (found h) ≡ true
 Complete found n cause (Err v) =
     (v ≡ fault-at cause (v .place))
@@ -140,7 +141,7 @@ Complete found n cause (Err v) =
     × ((g : ℕ) → 1 ≤ g → g < v .place → isSome (found g) ≡ true)
 
 -- both ways have their lines; or a house lacks its line from the head, or, where none does, its line to the head
-abbrev pub Both-complete : (ℕ → Option ℕ) → (ℕ → Option ℕ) → ℕ → Result (Unit {0}) Fault → Type 0
+abbrev pub Both-complete : (ℕ → Option Step) → (ℕ → Option Step) → ℕ → Result (Unit {0}) Fault → Type 0
 Both-complete out home n (Ok _) = Complete out n NoWayFromHead (Ok tt) × Complete home n NoWayToHead (Ok tt)
 Both-complete out home n (Err v) =
     Complete out n NoWayFromHead (Err v) ⊎ (Complete out n NoWayFromHead (Ok tt) × Complete home n NoWayToHead (Err v))

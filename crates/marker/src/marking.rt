@@ -6,7 +6,7 @@ ghost use Rattle.marker.specs.Marked.{Both-complete, Complete, Mark-answer, Ma
 ghost use Rattle.marker.specs.Rounds.{entry-in};
 use crate::marks::remarked;
 use crate::rounds::Table;
-use crate::rounds::has_line;
+use crate::rounds::entry;
 use crate::rounds::search;
 use fault::Cause;
 use fault::Fault;
@@ -20,7 +20,7 @@ fn check(table: &Table, houses: usize, cause: Cause) -> Result<(), Fault>
     ensures { λ r. ⌜ Complete (entry-in (now (table .entry))) houses cause r ⌝ }
 {
     for house in 1..houses {
-        if !has_line(table, house) {
+        if entry(table, house).is_none() {
             return Err(Fault::new(cause, house));
         }
     }

@@ -15,7 +15,7 @@ fn is_taken(table: &Table, house: u8, line: usize) -> bool
     ensures { λ r. ⌜ r ≡ takes (entry-in (now (table .entry)) house) line ⌝ }
 {
     match table[house as usize] {
-        Some(taken) => taken == line,
+        Some(step) => step.line == line,
         None => false,
     }
 }

@@ -11,13 +11,13 @@ abbrev pub Inv-houses : given.InvT-houses
 Inv-houses l =
     (length (l .table) ≡ 48)
     × (entry-in (l .table) 0 ≡ entry-in (l .old) 0)
-    × ((h : ℕ) → 1 ≤ h → h < l .house → Next (l .way) (l .lines) (entry-in (l .old)) h (entry-in (l .old) h) (entry-in (l .table) h))
+    × ((h : ℕ) → 1 ≤ h → h < l .house → Next (l .way) (l .lines) (entry-in (l .old)) (l .distance) h (entry-in (l .old) h) (entry-in (l .table) h))
     × ((h : ℕ) → l .house ≤ h → entry-in (l .table) h ≡ entry-in (l .old) h)
 
 abbrev pub Inv-loop-i : given.InvT-loop-i
 Inv-loop-i l =
     (length (l .table) ≡ 48)
     × (entry-in (l .table) 0 ≡ entry-in (l .old) 0)
-    × ((h : ℕ) → 1 ≤ h → h < l .house → Next (l .way) (l .lines) (entry-in (l .old)) h (entry-in (l .old) h) (entry-in (l .table) h))
+    × ((h : ℕ) → 1 ≤ h → h < l .house → Next (l .way) (l .lines) (entry-in (l .old)) (l .distance) h (entry-in (l .old) h) (entry-in (l .table) h))
     × ((h : ℕ) → l .house ≤ h → entry-in (l .table) h ≡ entry-in (l .old) h)
-    × ((j : ℕ) → j < l .i → steps-from (l .way) (entry-in (l .old)) (l .house) (getD (l .lines) j blank) ≡ true → ⊥)
+    × ((j : ℕ) → j < l .i → steps-from (l .way) (entry-in (l .old)) (l .distance) (l .house) (getD (l .lines) j blank) ≡ true → ⊥)

@@ -4,11 +4,12 @@ use native.Mathlib.Omega.{arith}
 use lib.ListN.{getD, replicate}
 use Rattle.std.specs.declared.option.Option.{Option}
 use Rattle.std.specs.declared.option.Option.the-variants.{None}
+use Rattle.marker.specs.declared.rounds.Step.{Step}
 use Rattle.marker.specs.Rounds.{entry-in}
 use Rattle.marker.proofs.Entries.{Entry, entry-start, next-entry, entry-found}
 use Rattle.marker.proofs.rounds.search_lines.Needs as need
 
-all-none : (n h : ℕ) → getD {A = Option ℕ} (replicate n None) h None ≡ None
+all-none : (n h : ℕ) → getD {A = Option Step} (replicate n None) h None ≡ None
 all-none zero h = refl
 all-none (suc n) zero = refl
 all-none (suc n) (suc h) = all-none n h
