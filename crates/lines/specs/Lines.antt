@@ -1,7 +1,6 @@
 -- Lines, their marks, and what a line is to a house.
 use Prim.Native.Nat.{ℕ, _<_}
 use mathlib.Core.Bool.{Bool, true, false, _&&_}
-use mathlib.Core.Path.{_≡_}
 use mathlib.Core.Logic.{_≢_}
 use lib.Dec.{eqb}
 use Rattle.lines.specs.declared.lines.End.{End}

@@ -1,5 +1,5 @@
 -- Marking again changes nothing, and a file in form is refused exactly when some house is cut off.
-use Prim.Native.Nat.{ℕ, _<_, _≤_}
+use Prim.Native.Nat.{ℕ, _<_}
 use mathlib.Core.Bool.{Bool, true, false}
 use mathlib.Core.List.{List, [], _∷_}
 use mathlib.Core.Logic.{_⊎_, inl, inr, ⊎-elim}
@@ -8,7 +8,6 @@ use native.Mathlib.Omega.{arith}
 use lib.ListN.{getD, take}
 use Rattle.std.proofs.shelf.Lists.{ext-getD, getD-take}
 use Rattle.std.proofs.shelf.Tests.{cases-lt, false≢true}
-use Rattle.std.specs.Orderings.{Decides}
 use Rattle.std.specs.Results.{isErr}
 use Rattle.std.specs.declared.result.Result.{Result}
 use Rattle.std.specs.declared.result.Result.the-variants.{Ok, Err}
@@ -18,7 +17,7 @@ use Rattle.lines.specs.declared.lines.End.{End}
 use Rattle.lines.specs.declared.lines.Line.{Line}
 use Rattle.lines.specs.declared.lines.Marks.{Marks}
 use Rattle.lines.specs.declared.lines.Way.{Way}
-use Rattle.lines.specs.Lines.{blank, house-at, near, marked, marks-of, meets}
+use Rattle.lines.specs.Lines.{blank, near, marked, marks-of, meets}
 use Rattle.lines.specs.Walks.{Walk, Route}
 use Rattle.plan.proofs.Accepted.{never-malformed, never-refused}
 use Rattle.plan.proofs.Bytes.{one-draft}
@@ -29,8 +28,8 @@ use Rattle.plan.specs.declared.plans.Plan.{Plan}
 use Rattle.plan.specs.Files.{file-of, Refused}
 use Rattle.plan.specs.Rules.{lines-of}
 use Rattle.plan.specs.Trees.{Tree}
-use Rattle.marker.specs.Distances.{any-line, Chosen, Cut-off}
-use Rattle.marker.specs.Marked.{Joined-up, Mark-draft, Mark-plan, Marks-plan-again, Refuses-cut-off, Remarked, Some-cut-off, Unmarked, Unreached}
+use Rattle.marker.specs.Distances.{any-line, Chosen}
+use Rattle.marker.specs.Marked.{Joined-up, Mark-draft, Mark-plan, Marks-plan-again, Refuses-cut-off, Remarked, Some-cut-off, Unreached}
 use Rattle.marker.proofs.Ends.{chosen-same, end-same, ends-back}
 
 -- MARKING AGAIN

@@ -17,7 +17,7 @@ use Rattle.lines.specs.declared.lines.Line.{Line}
 use Rattle.lines.specs.declared.lines.Way.{Way}
 use Rattle.lines.specs.Lines.{blank, house-at, near, beyond, In-form}
 use Rattle.marker.specs.declared.rounds.Step.{Step}
-use Rattle.marker.specs.Distances.{any-line, Distance, Cut-off, Nearer, Chosen}
+use Rattle.marker.specs.Distances.{any-line, Distance, Chosen}
 use Rattle.marker.specs.Rounds.{distance-is, stands, steps-from, Next, Found}
 
 -- DISTANCES BY TRAILS

@@ -1,9 +1,9 @@
 -- A draft that is marked by its chosen lines keeps the five rules.
 use Prim.Native.Nat.{ℕ, zero, suc, _-_, _<_, _≤_}
-use mathlib.Core.Bool.{Bool, true, _&&_}
-use mathlib.Core.List.{List, [], _∷_}
+use mathlib.Core.Bool.{true}
+use mathlib.Core.List.{List}
 use mathlib.Core.Logic.{_⊎_, inl, inr, ⊎-elim}
-use mathlib.Core.Path.{_≡_, refl, sym, _∙_, ap, subst}
+use mathlib.Core.Path.{_≡_, sym, _∙_, subst}
 use native.Mathlib.Omega.{arith}
 use lib.Dec.{eqb}
 use lib.ListN.{length, getD}
@@ -17,7 +17,7 @@ use Rattle.plan.proofs.Forms.{form-of, length-lines}
 use Rattle.plan.specs.declared.drafts.Draft.{Draft}
 use Rattle.plan.specs.declared.rules.Rule.{Rule}
 use Rattle.plan.specs.Judged.{Kept}
-use Rattle.plan.specs.Rules.{lines-of, due, Keeps, Leads}
+use Rattle.plan.specs.Rules.{lines-of, due, Leads}
 use Rattle.marker.specs.Distances.{Distance, Chosen}
 use Rattle.marker.specs.Marked.{Remarked}
 use Rattle.marker.proofs.Ends.{end-same, one-chosen, head-unchosen}

@@ -2,11 +2,10 @@
 use Prim.Native.Nat.{ℕ, _<_, _≤_}
 use mathlib.Core.Bool.{Bool, true, false}
 use mathlib.Core.List.{List}
-use mathlib.Core.Logic.{inl, inr, ⊎-elim}
+use mathlib.Core.Logic.{⊎-elim}
 use mathlib.Core.Path.{_≡_, refl, sym, _∙_, ap, subst}
 use native.Mathlib.Omega.{arith}
-use lib.Dec.{eqb}
-use lib.ListN.{length, getD}
+use lib.ListN.{getD}
 use Rattle.std.proofs.shelf.Lists.{getD-past, getD-take}
 use Rattle.std.proofs.shelf.Tests.{cases-eq, cases-lt, eq-eqb, eqb-true, false≢true, true≢false}
 use Rattle.std.specs.Options.{isSome}

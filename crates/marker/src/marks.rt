@@ -1,7 +1,6 @@
 ghost use mathlib.Core.Path.{_≡_};
-ghost use Prim.Native.Nat.{ℕ, _<_, _≤_};
-ghost use lib.ListN.{length, getD};
-ghost use Rattle.lines.specs.Lines.{blank};
+ghost use Prim.Native.Nat.{_<_};
+ghost use lib.ListN.{length};
 ghost use Rattle.marker.specs.Marked.{takes, remark-of, Retabled, Remarked-by};
 ghost use Rattle.marker.specs.Rounds.{entry-in};
 use crate::rounds::Table;

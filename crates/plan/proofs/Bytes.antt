@@ -1,5 +1,5 @@
 -- What stands where in the file of a draft, and that no two drafts have the same file.
-use Prim.Native.Nat.{ℕ, zero, suc, _+_, _*_, _<_, _≤_}
+use Prim.Native.Nat.{ℕ, zero, suc, _+_, _*_, _<_}
 use mathlib.Core.List.{List, [], _∷_, _++_}
 use mathlib.Core.Path.{_≡_, refl, sym, _∙_, ap, ap₂, subst}
 use native.Mathlib.Omega.{arith}
@@ -7,7 +7,7 @@ use lib.ListN.{length, getD, take, drop}
 use Rattle.std.proofs.shelf.Lists.{getD-append-add, getD-take, ext-getD}
 use Rattle.std.proofs.shelf.Tests.{cases-lt}
 use Rattle.std.specs.shelf.Lists.{joined}
-use mathlib.Core.Logic.{_⊎_, inl, inr, ⊎-elim}
+use mathlib.Core.Logic.{_⊎_, ⊎-elim}
 use Rattle.plan.specs.declared.drafts.Draft.{Draft}
 use Rattle.lines.specs.declared.lines.Line.{Line}
 use Rattle.lines.specs.declared.lines.Marks.{Marks}

@@ -2,17 +2,16 @@
 use Prim.Native.Nat.{ℕ, zero, suc, _+_, _-_, _*_, _/_, _%_, _<_, _≤_}
 use mathlib.Core.List.{List, [], _∷_, _++_}
 use mathlib.Core.Path.{_≡_, refl, sym, _∙_, ap, ap₂, subst}
-use native.Mathlib.Nat.{add-zero}
 use native.Mathlib.Omega.{arith}
 use lib.ListN.{length, getD, take, drop, replicate}
 use native.Mathlib.Numerals.{towards-suc}
-use Rattle.std.proofs.shelf.Lists.{getD-drop, getD-past, getD-take, take-rest, append-assoc, append-nil, take-append-drop, take-more, drop-drop, joined-more, length-append, length-replicate, length-drop, length-take-le, take-at, drop-at}
+use Rattle.std.proofs.shelf.Lists.{getD-drop, getD-past, getD-take, take-rest, append-assoc, take-append-drop, take-more, drop-drop, joined-more, length-append, length-replicate, length-drop, length-take-le, take-at, drop-at}
 use Rattle.std.specs.shelf.Lists.{joined}
 use borrow.Rule.Slice.PartMut.{putMid}
 use Rattle.plan.specs.declared.drafts.Draft.{Draft}
 use Rattle.lines.specs.declared.lines.Line.{Line}
 use Rattle.plan.specs.Files.{byte, mark, header, record-of, file-of, houses-in, lines-in, capacity-in, Versioned, Sized}
-use Rattle.lines.specs.Lines.{blank, In-form}
+use Rattle.lines.specs.Lines.{blank}
 use Rattle.plan.specs.Readers.{Record-at, Records}
 use Rattle.plan.specs.Rules.{lines-of}
 use Rattle.plan.proofs.Forms.{length-lines}

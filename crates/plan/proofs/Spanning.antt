@@ -23,7 +23,7 @@ use Rattle.lines.specs.Walks.{Walk, Route, Only-one}
 use Rattle.plan.specs.declared.drafts.Draft.{Draft}
 use Rattle.plan.specs.declared.plans.Plan.{Plan}
 use Rattle.plan.specs.declared.rules.Rule.{Rule}
-use Rattle.plan.specs.Files.{file-of, Refused}
+use Rattle.plan.specs.Files.{Refused}
 use Rattle.plan.specs.Judged.{Kept}
 use Rattle.plan.specs.Readers.{Read-plan, Accepts-trees}
 use Rattle.plan.specs.Rules.{lines-of}

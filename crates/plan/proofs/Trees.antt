@@ -1,13 +1,13 @@
 -- The rules of a tree, and the tree: each says the other.
 use Prim.Native.Nat.{ℕ, zero, suc, _-_, _<_, _≤_}
-use mathlib.Core.Bool.{Bool, true, false, _&&_}
+use mathlib.Core.Bool.{Bool, true}
 use mathlib.Core.List.{List, [], _∷_}
 use mathlib.Core.Logic.{_⊎_, inl, inr, ⊎-elim}
 use mathlib.Core.Path.{_≡_, refl, sym, _∙_, ap, subst}
 use native.Mathlib.Omega.{arith}
 use lib.Dec.{eqb}
 use lib.ListN.{length, getD}
-use Rattle.std.proofs.shelf.Tests.{and-from, and-parts, cases-eq, cases-lt, cond-true, cond-false, eq-eqb, eqb-true, ne-eqb}
+use Rattle.std.proofs.shelf.Tests.{and-from, and-parts, cases-eq, cases-lt, cond-false, eq-eqb, eqb-true, ne-eqb}
 use Rattle.std.specs.shelf.Lists.{countBy}
 use Rattle.lines.proofs.Depths.{shallow}
 use Rattle.lines.proofs.Trails.{Trail}

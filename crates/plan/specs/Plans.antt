@@ -1,5 +1,4 @@
 -- A plan place as it starts: one house, no line, capacity 1.
-use mathlib.Core.List.{[]}
 use mathlib.Core.Path.{_≡_}
 use lib.ListN.{replicate}
 use Rattle.plan.specs.declared.plans.Plan.{Plan}

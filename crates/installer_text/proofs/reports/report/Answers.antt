@@ -1,5 +1,5 @@
-use Prim.Native.Nat.{ℕ, zero, suc, _+_, _-_, _≤_}
-use mathlib.Core.List.{List, [], _++_}
+use Prim.Native.Nat.{suc, _+_, _-_}
+use mathlib.Core.List.{_++_}
 use mathlib.Core.Path.{_≡_, sym, _∙_, ap}
 use native.Mathlib.Omega.{arith}
 use Rattle.std.proofs.shelf.Lists.{append-assoc, append-nil}

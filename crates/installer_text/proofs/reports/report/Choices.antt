@@ -2,7 +2,7 @@ use Prim.Native.Nat.{_-_}
 use mathlib.Core.List.{_++_}
 use mathlib.Core.Path.{_≡_}
 use Rattle.std.specs.Of.String.{string-bytes}
-use Rattle.installer_text.specs.Reports.{houses-text, report-of}
+use Rattle.installer_text.specs.Reports.{houses-text}
 use Rattle.installer_text.proofs.reports.report.Given as given
 
 abbrev pub Inv-loop-house : given.InvT-loop-house

@@ -4,7 +4,6 @@ use mathlib.Core.Logic.{inl, inr, ⊎-elim}
 use mathlib.Core.Path.{_≡_}
 use Rattle.std.proofs.shelf.Results.{err-from-errBy}
 use Rattle.std.specs.Options.{isSome}
-use Rattle.std.specs.declared.option.Option.{Option}
 use Rattle.std.specs.declared.option.Option.the-variants.{None}
 use Rattle.fault.specs.declared.causes.Cause.the-variants.{NoWayFromHead, NoWayToHead}
 use Rattle.lines.specs.declared.lines.Way.{Way}

@@ -2,7 +2,6 @@ use Prim.Native.Nat.{ℕ, _<_, _≤_}
 use mathlib.Core.Bool.{true}
 use mathlib.Core.Path.{_≡_}
 use lib.ListN.{length, getD}
-use Rattle.std.specs.declared.option.Option.the-variants.{None}
 use Rattle.lines.specs.Lines.{blank}
 use Rattle.marker.specs.Rounds.{entry-in, steps-from, Next}
 use Rattle.marker.proofs.rounds.round.Given as given

@@ -1,6 +1,6 @@
 use Prim.Native.Nat.{_-_}
 use mathlib.Core.List.{_++_}
-use mathlib.Core.Path.{_≡_, ap₂, _∙_}
+use mathlib.Core.Path.{ap₂}
 use lib.ListN.{length}
 use native.Mathlib.Nat.{sub-zero}
 use Rattle.std.proofs.shelf.Lists.{drop-replicate}

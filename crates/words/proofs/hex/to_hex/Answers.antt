@@ -1,9 +1,9 @@
 use Prim.Native.Nat.{_+_}
-use mathlib.Core.List.{List, [], _∷_, _++_}
-use mathlib.Core.Path.{_≡_, refl, sym, _∙_, ap}
+use mathlib.Core.List.{_++_}
+use mathlib.Core.Path.{sym, _∙_, ap}
 use native.Mathlib.Omega.{arith}
-use lib.ListN.{getD, length, take}
-use Rattle.std.proofs.shelf.Lists.{append-assoc, joined-more, take-all, take-more}
+use lib.ListN.{getD, take}
+use Rattle.std.proofs.shelf.Lists.{joined-more, take-all, take-more}
 use Rattle.std.specs.Of.String.{string-bytes}
 use Rattle.words.specs.Hex.{hex-of, pair-of}
 use Rattle.words.proofs.hex.to_hex.Needs as need

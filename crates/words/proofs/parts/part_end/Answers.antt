@@ -1,9 +1,8 @@
-use Prim.Native.Nat.{_+_}
-use mathlib.Core.Bool.{Bool, not, true, false}
+use mathlib.Core.Bool.{not, true, false}
 use mathlib.Core.Path.{_≡_}
 use native.Mathlib.Omega.{arith}
 use lib.Dec.{eqb}
-use lib.ListN.{getD, length}
+use lib.ListN.{getD}
 use Rattle.std.proofs.shelf.Sums.{leading-drop-yes, leading-drop-no, leading-drop-all}
 use Rattle.std.proofs.shelf.Tests.{eq-eqb, ne-eqb, not-from-true, not-from-false}
 use Rattle.words.proofs.parts.part_end.Needs as need

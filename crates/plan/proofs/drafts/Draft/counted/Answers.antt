@@ -1,14 +1,12 @@
-use Prim.Native.Nat.{ℕ, _<_, _≤_}
+use Prim.Native.Nat.{ℕ, _<_}
 use mathlib.Core.List.{List}
 use mathlib.Core.Logic.{⊎-elim}
-use mathlib.Core.Path.{_≡_, refl, sym, _∙_, ap, subst}
+use mathlib.Core.Path.{refl, subst}
 use native.Mathlib.Omega.{arith}
-use lib.ListN.{length, getD}
+use lib.ListN.{getD}
 use Rattle.std.proofs.shelf.Sums.{countBy-le-length}
 use Rattle.std.proofs.shelf.Tests.{cases-lt}
-use Rattle.std.specs.shelf.Lists.{countBy}
 use Rattle.lines.specs.declared.lines.End.{End}
-use Rattle.lines.specs.declared.lines.Line.{Line}
 use Rattle.lines.specs.declared.lines.Way.{Way}
 use Rattle.lines.specs.Lines.{meets}
 use Rattle.plan.specs.declared.drafts.Draft.{Draft}

@@ -1,6 +1,3 @@
-use borrow.Author.Needs.{needs}
-use mathlib.Core.Path.{refl}
-use native.Mathlib.Omega.{arith}
 use Rattle.std.proofs.shelf.Results.{err-from-errBy}
 use Rattle.lines.specs.declared.lines.Way.{Way}
 use Rattle.plan.specs.declared.rules.Rule.{Rule}

@@ -1,4 +1,4 @@
-use mathlib.Core.Path.{_≡_, _∙_, ap}
+use mathlib.Core.Path.{_∙_, ap}
 use native.Mathlib.Nat.{sub-zero}
 use lib.ListN.{take}
 use Rattle.plan.proofs.plans.Plan.read_back.Needs as need

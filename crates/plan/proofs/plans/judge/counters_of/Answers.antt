@@ -1,13 +1,8 @@
-use Prim.Native.Nat.{ℕ, _+_, _<_, _≤_}
 use mathlib.Core.Logic.{_≢_}
-use mathlib.Core.Path.{_≡_, refl, sym, _∙_, ap}
+use mathlib.Core.Path.{refl, _∙_}
 use native.Mathlib.Omega.{arith}
 use borrow.Author.Count.{below-more}
 use Rattle.std.proofs.shelf.Lists.{getD-set-same, getD-set-other, length-set}
-use Rattle.std.specs.shelf.Lists.{countBy}
-use Rattle.lines.specs.declared.lines.End.{End}
-use Rattle.lines.specs.declared.lines.Way.{Way}
-use Rattle.lines.specs.Lines.{meets}
 use Rattle.plan.proofs.Records.{all-alike}
 use Rattle.plan.proofs.plans.judge.counters_of.Needs as need
 

@@ -1,6 +1,6 @@
 use Prim.Native.Nat.{_<_}
 use mathlib.Core.Logic.{inr}
-use mathlib.Core.Path.{_≡_, refl, _∙_, ap, subst}
+use mathlib.Core.Path.{refl, _∙_, ap, subst}
 use lib.ListN.{length}
 use Rattle.fault.specs.declared.causes.Cause.the-variants.{BufferShort}
 use Rattle.fault.specs.Layers.{fault-at}

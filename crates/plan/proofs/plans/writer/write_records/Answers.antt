@@ -1,6 +1,6 @@
 use Prim.Native.Nat.{_+_, _-_, _*_}
 use mathlib.Core.List.{[], _++_}
-use mathlib.Core.Path.{_≡_, refl, sym, _∙_, ap, ap₂}
+use mathlib.Core.Path.{_≡_, sym, _∙_, ap, ap₂}
 use native.Mathlib.Omega.{arith}
 use lib.ListN.{getD, length, take}
 use Rattle.std.proofs.shelf.Lists.{take-all, take-more, joined-more}

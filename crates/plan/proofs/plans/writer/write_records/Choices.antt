@@ -1,6 +1,6 @@
 use Prim.Native.Nat.{_*_}
 use mathlib.Core.Path.{_≡_}
-use lib.ListN.{length, take}
+use lib.ListN.{take}
 use Rattle.std.specs.shelf.Lists.{joined}
 use Rattle.plan.specs.Files.{record-of}
 use Rattle.plan.proofs.plans.writer.write_records.Given as given
