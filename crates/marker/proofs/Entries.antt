@@ -16,6 +16,7 @@ use Rattle.lines.proofs.Trails.{Trail, turned, turned-length, trail-route, rout
 use Rattle.lines.specs.declared.lines.Line.{Line}
 use Rattle.lines.specs.declared.lines.Way.{Way}
 use Rattle.lines.specs.Lines.{blank, house-at, near, beyond, In-form}
+use Rattle.plan.proofs.Ways.{end-below}
 use Rattle.marker.specs.declared.rounds.Step.{Step}
 use Rattle.marker.specs.Distances.{any-line, Distance, Chosen}
 use Rattle.marker.specs.Rounds.{distance-is, stands, steps-from, Next, Found}
@@ -25,10 +26,6 @@ use Rattle.marker.specs.Rounds.{distance-is, stands, steps-from, Next, Found}
 abbrev pub Away : Way → List Line → ℕ → ℕ → Type 0
 Away w xs h d =
     ((is : List ℕ) × (length is ≡ d) × Trail w any-line xs h is) × ((js : List ℕ) → Trail w any-line xs h js → d ≤ length js)
-
-pub end-below : (w : Way) (n : ℕ) (l : Line) → In-form n l → house-at (beyond w) l < n
-end-below Way.Direct n l form = form .0
-end-below Way.Back n l form = form .1
 
 -- the lowest-numbered line that passes a test, or that there is none
 pick : (p : Line → Bool) (xs : List Line) → ((i : ℕ) × (i < length xs) × (p (getD xs i blank) ≡ true) × ((j : ℕ) → j < i → p (getD xs j blank) ≡ true → ⊥)) ⊎ ((j : ℕ) → j < length xs → p (getD xs j blank) ≡ true → ⊥)

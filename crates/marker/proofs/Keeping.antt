@@ -13,6 +13,7 @@ use Rattle.lines.specs.declared.lines.Line.{Line}
 use Rattle.lines.specs.declared.lines.Way.{Way}
 use Rattle.lines.specs.Lines.{blank, house-at, near, beyond, marked, serves}
 use Rattle.plan.proofs.Counts.{counted, none-counted, one-counted}
+use Rattle.plan.proofs.Ways.{end-below}
 use Rattle.plan.proofs.Forms.{form-of, length-lines}
 use Rattle.plan.specs.declared.drafts.Draft.{Draft}
 use Rattle.plan.specs.declared.rules.Rule.{Rule}
@@ -21,7 +22,7 @@ use Rattle.plan.specs.Rules.{lines-of, due, Leads}
 use Rattle.marker.specs.Distances.{Distance, Chosen}
 use Rattle.marker.specs.Marked.{Remarked}
 use Rattle.marker.proofs.Ends.{end-same, one-chosen, head-unchosen}
-use Rattle.marker.proofs.Entries.{away-zero, distance-away, end-below, near-by, one-distance}
+use Rattle.marker.proofs.Entries.{away-zero, distance-away, near-by, one-distance}
 
 leads-more : (w : Way) (ys : List Line) (s t h : ℕ) → s ≤ t → Leads w ys s h → Leads w ys t h
 leads-more w ys zero zero h le e = e

@@ -4,10 +4,10 @@ pub mod Counts
 pub mod Files
 pub mod Forms
 mod Lowest
-mod Records
+pub mod Records
 mod Refusals
 pub mod Same
 pub mod Spanning
 mod Trees
 mod Verdicts
-mod Ways
+pub mod Ways

@@ -1,22 +1,17 @@
-use Prim.Native.Nat.{ℕ, zero, suc, _+_, _-_}
+use Prim.Native.Nat.{suc, _+_, _-_}
 use mathlib.Core.Path.{_≡_, refl, sym, _∙_, subst}
 use native.Mathlib.Omega.{arith}
-use lib.ListN.{getD, replicate}
 use Rattle.std.specs.declared.option.Option.{Option}
 use Rattle.std.specs.declared.option.Option.the-variants.{None}
 use Rattle.marker.specs.declared.rounds.Step.{Step}
 use Rattle.marker.specs.Rounds.{entry-in}
+use Rattle.plan.proofs.Records.{all-alike}
 use Rattle.marker.proofs.Entries.{Entry, entry-start, next-entry, entry-found}
 use Rattle.marker.proofs.rounds.search_lines.Needs as need
 
-all-none : (n h : ℕ) → getD {A = Option Step} (replicate n None) h None ≡ None
-all-none zero h = refl
-all-none (suc n) zero = refl
-all-none (suc n) (suc h) = all-none n h
-
 pub loop-step-holds : need.loop-step-holds
 loop-step-holds c =
-    (refl, refl, λ h far lt. subst (Entry (c .args .way) (c .args .lines .now) 0 h) (sym (all-none 48 h)) (entry-start (c .args .way) (c .args .lines .now) h far))
+    (refl, refl, λ h far lt. subst (Entry (c .args .way) (c .args .lines .now) 0 h) (sym (all-alike {X = Option Step} None 48 h)) (entry-start (c .args .way) (c .args .lines .now) h far))
 
 pub loop-step-again : need.loop-step-again
 loop-step-again c =
