@@ -1,5 +1,7 @@
 // What the lines carry: messages, the meaning of a carrier to the code above it, and its two makes, the wire and the
 // radio.
+#![tactic(auto)]
+
 mod carriers;
 mod makes;
 mod messages;

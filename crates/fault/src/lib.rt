@@ -1,4 +1,6 @@
 // A refusal: its number, its place and the layer that refuses.
+#![tactic(auto)]
+
 mod causes;
 mod faults;
 

@@ -1,4 +1,6 @@
 // Judges plan files: one `C HEX` to a line of standard input.
+#![tactic(auto)]
+
 use anyhow::anyhow;
 use installer_text::answers_to;
 use std::io::Read;

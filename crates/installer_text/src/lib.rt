@@ -1,4 +1,6 @@
 // What the installer's program prints: for each line of its input a verdict on a plan file, checked or marked anew.
+#![tactic(auto)]
+
 mod answers;
 mod commands;
 mod reports;

@@ -1,4 +1,6 @@
 // Cases on both sides of each limit of the plan file, beside a second count.
+#![tactic(auto)]
+
 mod buffers;
 mod cases;
 mod files;

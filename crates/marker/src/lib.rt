@@ -1,4 +1,6 @@
 // The marker: it marks the lines of a row anew, by distances from the head and to it.
+#![tactic(auto)]
+
 mod marking;
 mod marks;
 mod rounds;

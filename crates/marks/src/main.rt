@@ -1,4 +1,6 @@
 // Files marked by the library beside a second marker.
+#![tactic(auto)]
+
 mod cases;
 mod files;
 mod random;

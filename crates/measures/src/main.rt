@@ -1,4 +1,6 @@
 // Cases on both sides of each limit of the quantities and of the carriers, beside a second count.
+#![tactic(auto)]
+
 mod carriers;
 mod counts;
 mod files;

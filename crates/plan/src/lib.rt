@@ -1,4 +1,6 @@
 // The plan of a row: drafts in form, judged by the five rules of right marks; plan files, read and written.
+#![tactic(auto)]
+
 mod drafts;
 mod form;
 mod plans;

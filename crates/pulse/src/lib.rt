@@ -1,5 +1,7 @@
 // The rules of a round and the law of its runs: definitions and a theorem, with the types that they speak of and the text
 // of an answer.
+#![tactic(auto)]
+
 mod answers;
 mod calls;
 mod law;

@@ -1,4 +1,6 @@
 // What a house measures, the four quantities that a row is asked for, and the straight count of a list of readings.
+#![tactic(auto)]
+
 mod asked;
 mod choices;
 mod coldest;

@@ -1,4 +1,6 @@
 // Rounds of a row: one call by call, cases on both sides of each limit, and random rounds beside a straight count.
+#![tactic(auto)]
+
 mod cases;
 mod logs;
 mod makes;

@@ -1,4 +1,6 @@
 // The row: a plan, a quantity and a carrier, and its five calls.
+#![tactic(auto)]
+
 mod houses;
 mod lines;
 mod rounds;

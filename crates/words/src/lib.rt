@@ -1,4 +1,6 @@
 // Texts taken apart: lines and words with their places, and bytes in hexadecimal capitals.
+#![tactic(auto)]
+
 mod hex;
 mod memory;
 mod parts;
