@@ -3,7 +3,6 @@ use Rattle.std.proofs.Common.{◌≡◌, ℕ, ◌<◌, Bool, List, [], ◌∷◌
 use mathlib.Core.HLevel.{is_prop→PathP}
 use mathlib.Core.Logic.{∥∥₁_elim}
 use base.Stored.{Coded-set, coded_bool, coded_list, coded_ℕ}
-use denote.Struct.Props.{four_prop}
 use native.Mathlib.Bridge.{le_prop}
 use std.HLevel.{Π_prop}
 use Rattle.std.proofs.lemmas.Bool.{false≢true}
@@ -29,7 +28,8 @@ use Rattle.plan.proofs.Verdicts.{every}
 walk_prop : (p : Line → Bool) (xs : List Line) (a : ℕ) (is : List ℕ) (b : ℕ) → IsProp (Walk p xs a is b)
 walk_prop p xs a [] b = Coded-set coded_ℕ a b
 walk_prop p xs a (i ∷ is) b =
-    four_prop le_prop (Coded-set coded_bool _ _) (Coded-set coded_ℕ _ _) (walk_prop p xs (get_or xs i blank).to is b)
+    let before : IsProp (Walk p xs (get_or xs i blank).to is b) = walk_prop p xs (get_or xs i blank).to is b in
+    hlevel (le_prop, Coded-set coded_bool, Coded-set coded_ℕ, before)
 
 route_prop : (w : Way) (p : Line → Bool) (xs : List Line) (h : ℕ) (is : List ℕ) → IsProp (Route w p xs h is)
 route_prop Way.Direct p xs h is = walk_prop p xs 0 is h

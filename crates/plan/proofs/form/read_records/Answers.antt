@@ -10,10 +10,10 @@ use Rattle.plan.proofs.form.read_records.Goals as goal
 pub loop-i-init : goal.loop-i-init
 loop-i-init c = (refl, (λ i h. absurd (omega arith)), (λ j _. all_alike blank 128 j))
 
-pub returns-in-err-records : goal.returns-in-err-records
-returns-in-err-records c =
-    let p = err_from_is_err_and c.from-residual.result c.from-residual.ensures.1 in
-    let wrong = c.in-err-records.ensures in
+pub returns-in_err-records : goal.returns-in_err-records
+returns-in_err-records c =
+    let p = err_from_is_err_and c.from_residual.result c.from_residual.ensures.1 in
+    let wrong = c.in_err-records.ensures in
     let i = c.loop-i.i in
     let xs = c.args.part.now in
     let n = c.args.houses in
@@ -33,7 +33,7 @@ pub loop-i-preserved : goal.loop-i-preserved
 loop-i-preserved c =
     let i = c.loop-i.i in
     let xs = c.args.part.now in
-    let got = c.in-ok-records.ensures in (
+    let got = c.in_ok-records.ensures in (
       length-set c.loop-i.records i _ ∙ c.loop-i.invariant.0,
       records_more xs c.args.houses i c.loop-i.records _ (omega arith) c.loop-i.invariant.1 (record_cut xs (3 * i) (3 * i + 3 - 3 * i) (omega arith) _ got.0, got.1),
       spare_more xs c.args.houses i c.loop-i.records _ c.loop-i.invariant.2,

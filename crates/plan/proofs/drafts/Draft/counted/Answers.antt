@@ -17,14 +17,21 @@ small d cs are h =
     (λ past. omega (arith, are.2 h past))
     (cases_lt h d.houses)
 
-pub invariant-of-result : goal.invariant-of-result
-invariant-of-result c =
+pub invariant_of-result : goal.invariant_of-result
+invariant_of-result c =
     let d = c.args.self in
-    let are = subst (λ xs. CountersOf xs d.houses c.counters-of-counters.result) c.list.ensures c.counters-of-counters.ensures in
-    (d.size, ((d.tables.0, are.0), (d.form, (small d c.counters-of-counters.result are, (d.spare, (are.2, tt))))))
+    let are = subst (λ xs. CountersOf xs d.houses c.counters_of-counters.result) c.list.ensures c.counters_of-counters.ensures in
+    record {
+      size = d.size;
+      tables = (d.tables.0, are.0);
+      form = d.form;
+      bytes = small d c.counters_of-counters.result are;
+      spare = d.spare;
+      rest = are.2;
+    }
 
 pub returns : goal.returns
 returns c =
     let d = c.args.self in
-    let are = subst (λ xs. CountersOf xs d.houses c.counters-of-counters.result) c.list.ensures c.counters-of-counters.ensures in
+    let are = subst (λ xs. CountersOf xs d.houses c.counters_of-counters.result) c.list.ensures c.counters_of-counters.ensures in
     (refl, refl, refl, refl, are.1)

@@ -10,11 +10,11 @@ pub loop-house-preserved : goal.loop-house-preserved
 loop-house-preserved c =
     let cs = c.loop-house.counters in
     let i = c.loop-house.house in
-    let x = c.counter-of.result in (
+    let x = c.counter_of.result in (
       length-set cs i x ∙ c.loop-house.invariant.0,
       below_more _ i
           (λ k lt. let ne : k ≢ i = omega arith in get_or-set_other cs i k x 0 ne ∙ c.loop-house.invariant.1 k lt)
-          (get_or-set_same cs i x 0 (omega (arith, c.loop-house.invariant.0)) ∙ c.counter-of.ensures),
+          (get_or-set_same cs i x 0 (omega (arith, c.loop-house.invariant.0)) ∙ c.counter_of.ensures),
       λ k past. let ne : k ≢ i = omega arith in get_or-set_other cs i k x 0 ne ∙ c.loop-house.invariant.2 k (omega arith),
     )
 

@@ -5,13 +5,13 @@ use Rattle.plan.proofs.Refusals.{read_judged}
 use Rattle.plan.proofs.Spanning.{accepts_trees}
 use Rattle.plan.proofs.plans.reader.plan_in.Goals as goal
 
-pub returns-in-err-draft : goal.returns-in-err-draft
-returns-in-err-draft c =
-    let p = err_from_is_err_and c.from-residual.result c.from-residual.ensures.1 in
-    let reads : ReadPlan c.args.file.now c.from-residual.result = rw (p.1, p.2) c.in-err-draft.ensures.1 in
-    record { reads = reads; own = read_own c.args.file.now c.from-residual.result reads; trees = accepts_trees c.args.file.now c.from-residual.result reads }
+pub returns-in_err-draft : goal.returns-in_err-draft
+returns-in_err-draft c =
+    let p = err_from_is_err_and c.from_residual.result c.from_residual.ensures.1 in
+    let reads : ReadPlan c.args.file.now c.from_residual.result = rw (p.1, p.2) c.in_err-draft.ensures.1 in
+    record { reads = reads; own = read_own c.args.file.now c.from_residual.result reads; trees = accepts_trees c.args.file.now c.from_residual.result reads }
 
 pub returns : goal.returns
 returns c =
-    let reads = read_judged c.args.file.now c.in-ok-draft.draft c.judge.result c.in-ok-draft.ensures c.judge.ensures in
+    let reads = read_judged c.args.file.now c.in_ok-draft.draft c.judge.result c.in_ok-draft.ensures c.judge.ensures in
     record { reads = reads; own = read_own c.args.file.now c.judge.result reads; trees = accepts_trees c.args.file.now c.judge.result reads }
