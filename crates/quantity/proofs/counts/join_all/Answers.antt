@@ -14,9 +14,9 @@ pub loop-house-preserved : goal.loop-house-preserved
 loop-house-preserved g c =
     next_house g.Q.Quantity.sense g.met.Q.Quantity.laws c.args.readings.now c.loop-house.house _
     c.loop-house.holding
-    c.joined-by-holding.result
+    c.joined_by-holding.result
     c.loop-house-test.true
-    c.joined-by-holding.ensures
+    c.joined_by-holding.ensures
     ∙ c.loop-house.invariant
 
 pub returns : goal.returns
