@@ -13,12 +13,12 @@ pub returns : goal.returns
 returns c =
     let b = c.args.byte in
     let before = string_bytes c.args.text.now in
-    let high = c.push.ensures.ascii (subst (λ x. x < 128) (sym c.digit-of.ensures) (digit_small (b / 16) (omega (arith, c.ranges.byte.fits)))) in
-    let low = c.push-2.ensures.ascii (subst (λ x. x < 128) (sym c.digit-of-2.ensures) (digit_small (b % 16) (omega arith))) in
-    let x = encode c.digit-of.result in
-    let y = encode c.digit-of-2.result in
-    let one = pushed {was = before} {xs = before} x refl c.in-ok-push.was c.push.ensures.bytes in
-    let two = pushed y one c.in-ok-push-2.was c.push-2.ensures.bytes in
+    let high = c.push.ensures.ascii (subst (λ x. x < 128) (sym c.digit_of.ensures) (digit_small (b / 16) (omega (arith, c.ranges.byte.fits)))) in
+    let low = c.push-2.ensures.ascii (subst (λ x. x < 128) (sym c.digit_of-2.ensures) (digit_small (b % 16) (omega arith))) in
+    let x = encode c.digit_of.result in
+    let y = encode c.digit_of-2.result in
+    let one = pushed {was = before} {xs = before} x refl c.in_ok-push.was c.push.ensures.bytes in
+    let two = pushed y one c.in_ok-push-2.was c.push-2.ensures.bytes in
     two
     ∙ append_assoc before x y
-    ∙ ap₂ (λ u v. before ++ (u ++ v)) (high ∙ ap (λ z. z ∷ []) c.digit-of.ensures) (low ∙ ap (λ z. z ∷ []) c.digit-of-2.ensures)
+    ∙ ap₂ (λ u v. before ++ (u ++ v)) (high ∙ ap (λ z. z ∷ []) c.digit_of.ensures) (low ∙ ap (λ z. z ∷ []) c.digit_of-2.ensures)

@@ -8,7 +8,7 @@ loop-byte-preserved c =
     let bs = c.args.bytes.now in
     let i = c.loop-byte.byte-index in
     let before = string_bytes c.args.text.now in
-    c.in-ok-push-byte.ensures
+    c.in_ok-push_byte.ensures
     ∙ ap (λ t. t ++ pair_of (get_or bs i 0)) c.loop-byte.invariant
     ∙ flat_map_more pair_of before (take i bs) (get_or bs i 0)
     ∙ ap (λ xs. before ++ hex_of xs) (sym (take_more bs i 0 c.loop-byte-test.true))
