@@ -5,4 +5,4 @@ use Rattle.carrier.proofs.tables.Table.remove.Goals as goal
 pub returns : goal.returns
 returns c =
     let i = c.args.line in
-    removed_from c.args.make c.args.self.now.places c.take-out.new.places i (4 * i + 4 - 4 * i) c.take-out.result (omega arith) (omega arith) (omega arith) c.take-out.ensures
+    removed_from c.args.make c.args.self.now.places c.take_out.new.places i (4 * i + 4 - 4 * i) c.take_out.result (omega arith) (omega arith) (omega arith) c.take_out.ensures
