@@ -10,10 +10,10 @@ no_answer v p e = let z : ◌≡◌ {A = ℕ} 0 1 = cc in omega arith
 one_answer : (p q : Plan) → ◌≡◌ {A = Result Plan Fault} (Ok p) (Ok q) → p ≡ q
 one_answer p q e = cc
 
-pub returns-in-err-place : goal.returns-in-err-place
-returns-in-err-place c =
-    let p = err_from_is_err_and c.from-residual.result c.from-residual.ensures.1 in
-    let b = c.in-err-place.ensures in
+pub returns-in_err-place : goal.returns-in_err-place
+returns-in_err-place c =
+    let p = err_from_is_err_and c.from_residual.result c.from_residual.ensures.1 in
+    let b = c.in_err-place.ensures in
     record {
       marks = rw (p.1, p.2) (b.marks, refl);
       cut = rw p.1 b.cut;
@@ -22,7 +22,7 @@ returns-in-err-place c =
 
 pub returns : goal.returns
 returns c =
-    let b = c.in-ok-place.ensures in
+    let b = c.in_ok-place.ensures in
     record {
       marks = b.marks;
       cut = b.cut;

@@ -7,9 +7,9 @@ use Rattle.marker.specs.Rounds.{entry_in, Found}
 use Rattle.marker.proofs.Tabled.{by_way, first_cut, joined_up, marked_draft}
 use Rattle.marker.proofs.marking.plan_of.Goals as goal
 
-pub returns-in-err-check-both : goal.returns-in-err-check-both
-returns-in-err-check-both c =
-    let p = err_from_is_err_and c.from-residual.result c.from-residual.ensures.1 in
+pub returns-in_err-check_both : goal.returns-in_err-check_both
+returns-in_err-check_both c =
+    let p = err_from_is_err_and c.from_residual.result c.from_residual.ensures.1 in
     let d = c.args.draft.now in
     let out = entry_in c.search-direct.result in
     let home = entry_in c.search-back.result in
@@ -17,7 +17,7 @@ returns-in-err-check-both c =
     (⊎_elim
     (λ cut. inl (cut.0, first_cut Way.Direct d out c.search-direct.ensures.2 NoWayFromHead _ cut))
     (λ both. inr (both.1.0, joined_up Way.Direct d out c.search-direct.ensures.2 both.0, first_cut Way.Back d home c.search-back.ensures.2 NoWayToHead _ both.1))
-    c.in-err-check-both.ensures)
+    c.in_err-check_both.ensures)
 
 pub returns : goal.returns
 returns c =
@@ -36,5 +36,5 @@ returns c =
     is_found Way.Back = c.search-back.ensures.2
 
     there : (w : Way) (h : ℕ) → 1 ≤ h → h < c.args.draft.now.houses → is_some (by_way (entry_in c.search-direct.result) (entry_in c.search-back.result) w h) ≡ true
-    there Way.Direct = c.in-ok-check-both.ensures.0
-    there Way.Back = c.in-ok-check-both.ensures.1
+    there Way.Direct = c.in_ok-check_both.ensures.0
+    there Way.Back = c.in_ok-check_both.ensures.1

@@ -4,8 +4,8 @@ use Rattle.plan.proofs.Forms.{form_of}
 use Rattle.marker.specs.Rounds.{Searched}
 use Rattle.marker.proofs.rounds.search.Goals as goal
 
-pub search-lines-requires : goal.search-lines-requires
-search-lines-requires c =
+pub search_lines-requires : goal.search_lines-requires
+search_lines-requires c =
     let d = c.args.draft.now in
     record {
       within = omega arith;
@@ -13,4 +13,4 @@ search-lines-requires c =
     }
 
 pub returns : goal.returns
-returns c = subst (λ xs. Searched c.args.way xs c.args.draft.now.houses c.search-lines.result) c.list.ensures c.search-lines.ensures
+returns c = subst (λ xs. Searched c.args.way xs c.args.draft.now.houses c.search_lines.result) c.list.ensures c.search_lines.ensures
