@@ -56,7 +56,7 @@ handed_account a taken = record {
   begun = a.begun;
   taken = taken;
   loads = a.loads;
-  hand-overs = a.hand-overs + 1;
+  hand_overs = a.hand_overs + 1;
 }
 
 module _ {V W F : Type 0} (q : Sense V W F) (laws : Laws V W F q) (p : Plan) (v : View V W) (sent : ℕ → Bool) (arrived : ℕ → ℕ) (a : Account) (ok : Sound V W F q p.draft v sent arrived a) where
@@ -146,7 +146,7 @@ module _ {V W F : Type 0} (q : Sense V W F) (laws : Laws V W F q) (p : Plan) (v 
       taken_other : (g : ℕ) → g ≢ h → times g (record { house = h; reading = r } ∷ a.taken) ≡ times g a.taken
       taken_other g ne = cond-false (eqb h g) (suc (times g a.taken)) (times g a.taken) (ne_eqb h g (λ e. ne (sym e)))
 
-      hands_more : (a.hand-overs + 1) + bit (at v.called h true 0) ≡ sum (houses_of p) (λ g. bit (at v.called h true g)) + sum (count_of p) arrived
+      hands_more : (a.hand_overs + 1) + bit (at v.called h true 0) ≡ sum (houses_of p) (λ g. bit (at v.called h true g)) + sum (count_of p) arrived
       hands_more =
           let more : sum (houses_of p) (λ g. bit (at v.called h true g)) ≡ 1 + sum (houses_of p) (λ g. bit (v.called g)) = total_more ◌+◌ 0 adding (houses_of p) (λ g. bit (v.called g)) (λ g. bit (at v.called h true g)) h 1 new_below (ap bit (at_same v.called h true) ∙ sym (ap (λ b. 1 + bit b) uncalled)) (λ j l ne. ap bit (called_other j ne)) in
           omega (arith, more, ok.hands, ap bit same_head)
@@ -242,7 +242,7 @@ module _ {V W F : Type 0} (q : Sense V W F) (laws : Laws V W F q) (p : Plan) (v 
           (λ ne. omega (arith, at_other v.awaited h (v.awaited h - 1) g ne, arrived_more g, cond-false {A = ℕ} (eqb h g) 1 0 (ne_eqb h g (λ z. ne (sym z))), ok.awaits begun_then g l))
           (cases_eq g h)
 
-      hands_one : (a.hand-overs + 1) + bit (v.called 0) ≡ sum (houses_of p) (λ g. bit (v.called g)) + sum (count_of p) (at arrived i 1)
+      hands_one : (a.hand_overs + 1) + bit (v.called 0) ≡ sum (houses_of p) (λ g. bit (v.called g)) + sum (count_of p) (at arrived i 1)
       hands_one =
           let more : sum (count_of p) (at arrived i 1) ≡ 1 + sum (count_of p) arrived = total_more ◌+◌ 0 adding (count_of p) arrived (at arrived i 1) i 1 lt (at_same arrived i 1 ∙ sym (ap (λ k. 1 + k) response_tells.4)) (λ j l ne. at_other arrived i 1 j ne) in
           omega (arith, more, ok.hands)

@@ -134,7 +134,7 @@ module _ {V W F : Type 0} (q : Sense V W F) (laws : Laws V W F q) (p : Plan) (v 
       pub taken_after : (h : ℕ) → h < houses_of p → times h a.taken ≡ 1
       taken_after h lt = ok.takes h lt ∙ ap bit (all_done h lt).0
 
-      pub hands_after : a.hand-overs ≡ 2 * houses_of p - 2
+      pub hands_after : a.hand_overs ≡ 2 * houses_of p - 2
       hands_after =
           let c : sum (houses_of p) (λ h. bit (v.called h)) ≡ houses_of p = ones (houses_of p) (λ h. bit (v.called h)) (λ h l. ap bit (all_done h l).0) in
           let r : sum (count_of p) arrived ≡ sum (count_of p) (λ i. bit (back p i)) = total_same ◌+◌ 0 adding (count_of p) arrived (λ i. bit (back p i)) came_back in
@@ -163,7 +163,7 @@ module _ {V W F : Type 0} (q : Sense V W F) (laws : Laws V W F q) (p : Plan) (v 
 
     -- 2n - 2 HAND-OVERS
 
-    pub done_by_hands : a.hand-overs ≡ 2 * houses_of p - 2 → v.awaited 0 ≡ 0
+    pub done_by_hands : a.hand_overs ≡ 2 * houses_of p - 2 → v.awaited 0 ≡ 0
     done_by_hands all =
         let few : sum (houses_of p) (λ h. bit (v.called h)) ≤ houses_of p = at_most (houses_of p) (λ h. bit (v.called h)) (λ h. few_bit (v.called h)) in
         let same = tight (count_of p) arrived (λ i. bit (back p i)) (λ i l. arrived_few q laws p v sent arrived a ok i l) (omega (arith, few, ok.hands, ap bit is-called, tree_sum p Way.Back, some_house p)) in

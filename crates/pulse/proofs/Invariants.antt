@@ -43,7 +43,7 @@ pub record Invariant (V W F : Type 0) (q : Sense V W F) (a : Account) (s : State
   pub shaped : Shaped s.round
   pub lists_long : length s.lists ≡ s.plan.draft.lines
   pub readings_given : (h : ℕ) → h < s.plan.draft.houses → get_or s.readings h blank_reading ≡ a.given h
-  pub hand_overs_counted : s.round.hand_overs ≡ a.hand-overs
+  pub hand_overs_counted : s.round.hand_overs ≡ a.hand_overs
   pub sent : ℕ → Bool
   pub arrived : ℕ → ℕ
   pub sound : Sound V W F q s.plan.draft (view q s.round s.lists) sent arrived a
@@ -55,7 +55,7 @@ passes true fault rest e = (refl, e)
 passes false fault rest e = absurd (let z : ◌≡◌ {A = ℕ} 0 1 = cc in omega arith)
 
 module _ {V W F : Type 0} (q : Sense V W F) (laws : Laws V W F q) where
-  pub few_hands : (p : Plan) (v : View V W) (sent : ℕ → Bool) (arrived : ℕ → ℕ) (a : Account) → Sound V W F q p.draft v sent arrived a → a.hand-overs ≤ 95
+  pub few_hands : (p : Plan) (v : View V W) (sent : ℕ → Bool) (arrived : ℕ → ℕ) (a : Account) → Sound V W F q p.draft v sent arrived a → a.hand_overs ≤ 95
   few_hands p v sent arrived a ok =
       omega (arith, ok.hands, at_most (houses_of p) (λ h. bit (v.called h)) (λ h. few_bit (v.called h)), sum_le (count_of p) arrived _ (arrived_few q laws p v sent arrived a ok), tree_sum p Way.Back, few_houses p)
     where
@@ -109,11 +109,11 @@ module _ {V W F : Type 0} (q : Sense V W F) (laws : Laws V W F q) where
     sets : (h : ℕ) (r : Reading) → h < s.plan.draft.houses → Invariant V W F q (with_set a h r) (with_reading s h r)
     sets h r lt = record {
       fits = inv.fits;
-      readings_long = length-set s.readings h r ∙ inv.readings-long;
+      readings_long = length-set s.readings h r ∙ inv.readings_long;
       shaped = inv.shaped;
-      lists_long = inv.lists-long;
-      readings_given = λ g l. read_set s.readings h r blank_reading (omega (arith, inv.readings-long, few_houses s.plan)) g ∙ ⊎_elim (λ (e : g ≡ h). subst (λ k. at (λ j. get_or s.readings j blank_reading) h r k ≡ at a.given h r k) (sym e) (at_same (λ j. get_or s.readings j blank_reading) h r ∙ sym (at_same a.given h r))) (λ ne. at_other (λ j. get_or s.readings j blank_reading) h r g ne ∙ inv.readings-given g l ∙ sym (at_other a.given h r g ne)) (cases_eq g h);
-      hand_overs_counted = inv.hand-overs-counted;
+      lists_long = inv.lists_long;
+      readings_given = λ g l. read_set s.readings h r blank_reading (omega (arith, inv.readings_long, few_houses s.plan)) g ∙ ⊎_elim (λ (e : g ≡ h). subst (λ k. at (λ j. get_or s.readings j blank_reading) h r k ≡ at a.given h r k) (sym e) (at_same (λ j. get_or s.readings j blank_reading) h r ∙ sym (at_same a.given h r))) (λ ne. at_other (λ j. get_or s.readings j blank_reading) h r g ne ∙ inv.readings_given g l ∙ sym (at_other a.given h r g ne)) (cases_eq g h);
+      hand_overs_counted = inv.hand_overs_counted;
       sent = inv.sent;
       arrived = inv.arrived;
       sound = record {
@@ -148,13 +148,13 @@ module _ {V W F : Type 0} (q : Sense V W F) (laws : Laws V W F q) where
         let shaped₀ : Shaped r₀ = (length-map d.counters (idle q) ∙ d.tables.1, inv.shaped.1) in
         let at_start : (h : ℕ) → standing q r₀ h ≡ idle q (get_or d.counters h 0) = λ h. get_or-map (idle q) d.counters h 0 in
         let v₀ = view q r₀ s.lists in
-        let seen : view q (begin q d (reading_of s 0) s.round) s.lists ≡ called_view q s.plan v₀ 0 (q.given 0 (a.given 0)) v₀.on_line = view_called q s.plan r₀ shaped₀ 0 (omega arith) (reading_of s 0) s.lists v₀.on_line (λ i. refl) s.lists ∙ ap (λ y. called_view q s.plan v₀ 0 (q.given 0 y) v₀.on_line) (inv.readings-given 0 (some_house s.plan)) in
+        let seen : view q (begin q d (reading_of s 0) s.round) s.lists ≡ called_view q s.plan v₀ 0 (q.given 0 (a.given 0)) v₀.on_line = view_called q s.plan r₀ shaped₀ 0 (omega arith) (reading_of s 0) s.lists v₀.on_line (λ i. refl) s.lists ∙ ap (λ y. called_view q s.plan v₀ 0 (q.given 0 y) v₀.on_line) (inv.readings_given 0 (some_house s.plan)) in
         record {
           fits = inv.fits;
-          readings_long = inv.readings-long;
+          readings_long = inv.readings_long;
           shaped = shaped_called q s.plan r₀ shaped₀ 0 (omega arith) (reading_of s 0);
-          lists_long = inv.lists-long;
-          readings_given = inv.readings-given;
+          lists_long = inv.lists_long;
+          readings_given = inv.readings_given;
           hand_overs_counted = refl;
           sent = λ _. false;
           arrived = λ _. 0;
@@ -172,17 +172,17 @@ module _ {V W F : Type 0} (q : Sense V W F) (laws : Laws V W F q) where
           (λ h. refl)
           (λ j. ap (λ y. y.request) (read_set s.round.waiting i x none_waits (omega (arith, inv.shaped.1, s.plan.draft.size.2)) j) ∙ req j)
           (λ j. ap (λ y. y.response) (read_set s.round.waiting i x none_waits (omega (arith, inv.shaped.1, s.plan.draft.size.2)) j) ∙ resp j)
-          (read_set s.lists i xs [] (omega (arith, inv.lists-long)))
+          (read_set s.lists i xs [] (omega (arith, inv.lists_long)))
 
       -- the invariant from that of the messages, whatever now waits
       loads_with : (x : Waiting W) (xs : List (Message W)) → Sound V W F q s.plan.draft (view q (with_waiting s.round i x) (set s.lists i xs)) inv.sent inv.arrived (with_load a i) → Invariant V W F q (with_load a i) (with_list (with_round s (with_waiting s.round i x)) i xs)
       loads_with x xs ok = record {
         fits = inv.fits;
-        readings_long = inv.readings-long;
+        readings_long = inv.readings_long;
         shaped = (inv.shaped.0, length-set s.round.waiting i x ∙ inv.shaped.1);
-        lists_long = length-set s.lists i xs ∙ inv.lists-long;
-        readings_given = inv.readings-given;
-        hand_overs_counted = inv.hand-overs-counted;
+        lists_long = length-set s.lists i xs ∙ inv.lists_long;
+        readings_given = inv.readings_given;
+        hand_overs_counted = inv.hand_overs_counted;
         sent = inv.sent;
         arrived = inv.arrived;
         sound = ok;
@@ -235,15 +235,15 @@ module _ {V W F : Type 0} (q : Sense V W F) (laws : Laws V W F q) where
     hands_with : (i : ℕ) (xs : List (Message W)) (r : Round V W) (taken : List Taking) → r.hand_overs ≡ s.round.hand_overs → Kept s.plan r (set s.lists i xs) (handed_account a taken) → Invariant V W F q (handed_account a taken) (with_list (with_round s (counted r)) i xs)
     hands_with i xs r taken count kept = record {
       fits = inv.fits;
-      readings_long = inv.readings-long;
-      shaped = kept.is-shaped;
-      lists_long = length-set s.lists i xs ∙ inv.lists-long;
-      readings_given = inv.readings-given;
-      hand_overs_counted = omega (arith, count, inv.hand-overs-counted, few_hands s.plan (view q r (set s.lists i xs)) kept.has-sent kept.has-arrived (handed_account a taken) kept.is-sound);
-      sent = kept.has-sent;
-      arrived = kept.has-arrived;
-      sound = kept.is-sound;
-      settled = kept.is-settled;
+      readings_long = inv.readings_long;
+      shaped = kept.is_shaped;
+      lists_long = length-set s.lists i xs ∙ inv.lists_long;
+      readings_given = inv.readings_given;
+      hand_overs_counted = omega (arith, count, inv.hand_overs_counted, few_hands s.plan (view q r (set s.lists i xs)) kept.has_sent kept.has_arrived (handed_account a taken) kept.is_sound);
+      sent = kept.has_sent;
+      arrived = kept.has_arrived;
+      sound = kept.is_sound;
+      settled = kept.is_settled;
     }
 
     module _ (i : ℕ) (lt : i < s.plan.draft.lines) (before after : List (Message W)) where
@@ -257,7 +257,7 @@ module _ {V W F : Type 0} (q : Sense V W F) (laws : Laws V W F q) where
           let small : h < 48 = omega (arith, to_below s.plan i lt, few_houses s.plan) in
           let off = (request_tells q laws s.plan v inv.sent inv.arrived a inv.sound i lt before after is-on).1 in
           let r₁ = call q d h (reading_of s h) r in
-          let seen : view q r₁ (set s.lists i xs) ≡ called_view q s.plan v h (q.given h (a.given h)) (at v.on_line i xs) = view_called q s.plan r inv.shaped h small (reading_of s h) (set s.lists i xs) (at v.on_line i xs) (read_set s.lists i xs [] (omega (arith, inv.lists-long))) s.lists ∙ ap (λ y. called_view q s.plan v h (q.given h y) (at v.on_line i xs)) (inv.readings-given h (to_below s.plan i lt)) in
+          let seen : view q r₁ (set s.lists i xs) ≡ called_view q s.plan v h (q.given h (a.given h)) (at v.on_line i xs) = view_called q s.plan r inv.shaped h small (reading_of s h) (set s.lists i xs) (at v.on_line i xs) (read_set s.lists i xs [] (omega (arith, inv.lists_long))) s.lists ∙ ap (λ y. called_view q s.plan v h (q.given h y) (at v.on_line i xs)) (inv.readings_given h (to_below s.plan i lt)) in
           let sound₁ = subst (λ u. Sound V W F q d u inv.sent inv.arrived (handed_account a (takes a h))) (sym seen) (request_arrives q laws s.plan v inv.sent inv.arrived a inv.sound i lt before after is-on h refl (a.given h)) in
           let but : Settled d (view q r₁ (set s.lists i xs)) inv.sent (λ g. g ≡ h) = subst (λ u. Settled d u inv.sent (λ g. g ≡ h)) (sym seen) (λ g l ne far c z. inv.settled g l (λ x. x) far (sym (at_other v.called h true g ne) ∙ c) z) in
           let unsent : inv.sent h ≡ false = ⊎_elim (λ e. absurd (both_ways (v.called h) off (inv.sound.sends h (to_below s.plan i lt) e).1)) (λ e. e) (cases_Bool (inv.sent h)) in
@@ -275,7 +275,7 @@ module _ {V W F : Type 0} (q : Sense V W F) (laws : Laws V W F q) where
           let some = awaited_then q laws s.plan v inv.sent inv.arrived a inv.sound i lt w before after is-on h refl in
           let r₁ = receive q h w r in
           let arrived₁ = at inv.arrived i 1 in
-          let seen : view q r₁ (set s.lists i xs) ≡ received_view q v h (value_of q w) (at v.on_line i xs) = view_received q s.plan r inv.shaped h small w (set s.lists i xs) (at v.on_line i xs) (read_set s.lists i xs [] (omega (arith, inv.lists-long))) s.lists in
+          let seen : view q r₁ (set s.lists i xs) ≡ received_view q v h (value_of q w) (at v.on_line i xs) = view_received q s.plan r inv.shaped h small w (set s.lists i xs) (at v.on_line i xs) (read_set s.lists i xs [] (omega (arith, inv.lists_long))) s.lists in
           let sound₁ = subst (λ u. Sound V W F q d u inv.sent arrived₁ (handed_account a a.taken)) (sym seen) (response_arrives q laws s.plan v inv.sent inv.arrived a inv.sound i lt w before after is-on h refl) in
           let but : Settled d (view q r₁ (set s.lists i xs)) inv.sent (λ g. g ≡ h) = subst (λ u. Settled d u inv.sent (λ g. g ≡ h)) (sym seen) (λ g l ne far c z. inv.settled g l (λ x. x) far c (sym (at_other v.awaited h (v.awaited h - 1) g ne) ∙ z)) in
           let unsent : inv.sent h ≡ false = ⊎_elim (λ e. absurd (omega (arith, some, (inv.sound.sends h (to_below s.plan i lt) e).2))) (λ e. e) (cases_Bool (inv.sent h)) in

@@ -130,14 +130,14 @@ module _ {V W F : Type 0} (q : Sense V W F) (laws : Laws V W F q) where
     counted_answer e =
         let f = is_finished e in (
           answer_after q laws s.plan (view q s.round s.lists) inv.sent inv.arrived a inv.sound f.0 f.1,
-          inv.hand-overs-counted ∙ hands_after q laws s.plan (view q s.round s.lists) inv.sent inv.arrived a inv.sound f.0 f.1,
+          inv.hand_overs_counted ∙ hands_after q laws s.plan (view q s.round s.lists) inv.sent inv.arrived a inv.sound f.0 f.1,
         )
 
     reported : Finished q s → report q s ≡ record { figures = q.figures (join_of q a.taken); hand_overs = 2 * s.plan.draft.houses - 2 }
     reported e = let c = counted_answer e in λ i. record { figures = q.figures (c.0 i); hand_overs = c.1 i }
 
     line_here : (i : ℕ) → i < s.plan.draft.lines → has_line s i ≡ true
-    line_here i lt = and_from (ltb i s.plan.draft.lines) (ltb i (length s.lists)) (lt-ltb i s.plan.draft.lines lt) (lt-ltb i (length s.lists) (omega (arith, inv.lists-long)))
+    line_here i lt = and_from (ltb i s.plan.draft.lines) (ltb i (length s.lists)) (lt-ltb i s.plan.draft.lines lt) (lt-ltb i (length s.lists) (omega (arith, inv.lists_long)))
 
     moves : a.begun ≡ true → (Finished q s → ⊥) → (i : ℕ) × ((load_refusal k s i ≡ None) ⊎ (hand_over_refusal s i ≡ None))
     moves b open-round =
@@ -187,7 +187,7 @@ module _ {V W F : Type 0} (q : Sense V W F) (laws : Laws V W F q) where
         once = once_at_most k some-room a s inv;
         progress = moves k some-room a s inv;
         completion = λ b. (
-          (λ e. sym inv.hand-overs-counted ∙ (counted_answer k some-room a s inv e).1),
+          (λ e. sym inv.hand_overs_counted ∙ (counted_answer k some-room a s inv e).1),
           (λ all. let head = sym inv.sound.begins ∙ b in finishes k some-room a s inv head (done_by_hands q laws s.plan v inv.sent inv.arrived a inv.sound head all)),
         );
         whole = λ e. let f = is_finished k some-room a s inv e in taken_after q laws s.plan v inv.sent inv.arrived a inv.sound f.0 f.1;

@@ -63,7 +63,7 @@ pub record Sound (V W F : Type 0) (q : Sense V W F) (d : Draft) (v : View V W) (
   pub awaits : v.called 0 ≡ true → (h : ℕ) → h < d.houses → v.awaited h + sum d.lines (λ i. pick (eqb (line d i).to h) (arrived i)) ≡ get_or d.counters h 0
   pub sends : (h : ℕ) → h < d.houses → sent h ≡ true → (h ≢ 0) × (v.called h ≡ true) × (v.awaited h ≡ 0) × (v.holding h ≡ q.nothing)
   pub begins : a.begun ≡ v.called 0
-  pub hands : a.hand-overs + bit (v.called 0) ≡ sum d.houses (λ h. bit (v.called h)) + sum d.lines arrived
+  pub hands : a.hand_overs + bit (v.called 0) ≡ sum d.houses (λ h. bit (v.called h)) + sum d.lines arrived
   pub loads : (i : ℕ) → i < d.lines → a.loads i + (bit (v.request i) + bit (is_some (v.response i))) ≡ asked d v i + replied d sent i
   pub takes : (h : ℕ) → h < d.houses → times h a.taken ≡ bit (v.called h)
   pub strangers : (h : ℕ) → d.houses ≤ h → times h a.taken ≡ 0

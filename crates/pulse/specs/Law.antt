@@ -65,8 +65,8 @@ pub record Lawful (V W F : Type 0) (q : Sense V W F) (k : ℕ) (p : Plan) (es : 
   -- the answer is there exactly when the hand-overs number 2n - 2
   pub completion :
       (account es).begun ≡ true
-      → (Finished q s → (account es).hand-overs ≡ 2 * p.draft.houses - 2)
-      × ((account es).hand-overs ≡ 2 * p.draft.houses - 2 → Finished q s)
+      → (Finished q s → (account es).hand_overs ≡ 2 * p.draft.houses - 2)
+      × ((account es).hand_overs ≡ 2 * p.draft.houses - 2 → Finished q s)
   -- then every house took one reading
   pub whole : Finished q s → (h : ℕ) → h < p.draft.houses → times h (account es).taken ≡ 1
   -- and the answer is the join of these; read answers its final figures, and 2n - 2

@@ -69,7 +69,7 @@ with_load a i = record {
   begun = a.begun;
   taken = a.taken;
   loads = at a.loads i (a.loads i + 1);
-  hand_overs = a.hand-overs;
+  hand_overs = a.hand_overs;
 }
 
 -- an accepted set of house h
@@ -79,7 +79,7 @@ with_set a h r = record {
   begun = a.begun;
   taken = a.taken;
   loads = a.loads;
-  hand_overs = a.hand-overs;
+  hand_overs = a.hand_overs;
 }
 
 -- house h takes its reading at an accepted hand over that answers a request and house h
@@ -95,7 +95,7 @@ with_hand_over a (Some d) = record {
   begun = a.begun;
   taken = taken_at a d.kind d.house;
   loads = a.loads;
-  hand_overs = a.hand-overs + 1;
+  hand_overs = a.hand_overs + 1;
 }
 
 -- the account after one more exchange; a refused call changes nothing in it, nor does read
