@@ -18,13 +18,14 @@ fn in_limits(reading: &Reading) -> bool {
 }
 
 // A refusal by its number and its place.
+#[derive(Clone, Copy, PartialEq, Eq, Debug)]
 pub struct Refusal {
     pub number: usize,
     pub place: usize,
 }
 
 // The refusal of the list, or none where it is counted.
-pub fn refusal(readings: &[Reading]) -> Option<Refusal> {
+pub fn refusal_of(readings: &[Reading]) -> Option<Refusal> {
     if readings.len() > FEW {
         return Some(Refusal {
             number: 30,
