@@ -9,7 +9,7 @@ loop-house-init g c = made_none (idle g.Q.Quantity.sense) c.args.plan.now.draft.
 pub loop-house-preserved : goal.loop-house-preserved
 loop-house-preserved g c =
     made_more (idle g.Q.Quantity.sense) c.args.plan.now.draft.counters c.loop-house.house c.loop-house.houses c.idle.result (omega arith)
-    (c.idle.ensures ∙ ap (idle g.Q.Quantity.sense) c.counter-of.ensures) c.loop-house.invariant
+    (c.idle.ensures ∙ ap (idle g.Q.Quantity.sense) c.counter_of.ensures) c.loop-house.invariant
 
 pub returns : goal.returns
 returns g c =

@@ -17,7 +17,7 @@ loop-i-preserved c =
     let le : length ls ≤ length xs = omega arith in
     let within : i < length c.loop-i.waiting = omega arith in
     let read = c.index-waiting-i.is ∙ get_or_default c.loop-i.waiting i c.index-waiting-i.result none_waits within in
-    ap (set c.loop-i.waiting i) (c.at-line.ensures ∙ ap (λ x. cond (p (get_or ls i blank)) (f x) x) read)
+    ap (set c.loop-i.waiting i) (c.at_line.ensures ∙ ap (λ x. cond (p (get_or ls i blank)) (f x) x) read)
     ∙ subst (λ ys. set ys i (cond (p (get_or ls i blank)) (f (get_or ys i none_waits)) (get_or ys i none_waits)) ≡ at_lines p f (take (i + 1) ls) xs) (sym c.loop-i.invariant) (at_lines_more p f none_waits ls xs i lt le)
 
 pub returns : goal.returns

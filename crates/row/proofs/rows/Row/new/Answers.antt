@@ -9,14 +9,14 @@ pub returns : goal.returns
 returns g c =
     let q = g.Q.Quantity.sense in
     let p = c.args.plan in
-    let fit = c.is-fit-fit.result in
+    let fit = c.is_fit-fit.result in
     let b = g.C.Carrier.meaning c.args.carrier in
-    let made : ◌≡◌ {A = State g.row.Q-Value.Denot Word} record { plan = p; fit = fit; readings = c.blank-readings.result; round = c.no-round.result; lists = b.lists } (new_state q p fit b) =
-    ap (λ x. record { plan = p; fit = fit; readings = x; round = c.no-round.result; lists = b.lists }) c.blank-readings.ensures
-    ∙ ap (λ x. record { plan = p; fit = fit; readings = (new_state q p fit b).readings; round = x; lists = b.lists }) c.no-round.ensures in
+    let made : ◌≡◌ {A = State g.row.Q-Value.Denot Word} record { plan = p; fit = fit; readings = c.blank_readings.result; round = c.no_round.result; lists = b.lists } (new_state q p fit b) =
+    ap (λ x. record { plan = p; fit = fit; readings = x; round = c.no_round.result; lists = b.lists }) c.blank_readings.ensures
+    ∙ ap (λ x. record { plan = p; fit = fit; readings = (new_state q p fit b).readings; round = x; lists = b.lists }) c.no_round.ensures in
     record {
       made = made;
-      fit = c.is-fit-fit.ensures;
+      fit = c.is_fit-fit.ensures;
       same = refl;
-      start = λ e. let s = started q p b fit c.is-fit-fit.ensures e in (s.0, s.1 ∙ sym made);
+      start = λ e. let s = started q p b fit c.is_fit-fit.ensures e in (s.0, s.1 ∙ sym made);
     }
