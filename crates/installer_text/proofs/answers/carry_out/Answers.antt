@@ -8,4 +8,4 @@ returns-in-Check c =
 
 pub returns-in-Mark : goal.returns-in-Mark
 returns-in-Mark c =
-    subst (λ k. IfOk c.mark-file.result (λ _. Adds (Asked k c.args.file.now) (string_bytes c.args.text.now) (string_bytes c.mark-file.new.text))) (sym c.in-Mark.is) c.mark-file.ensures
+    subst (λ k. IfOk c.mark_file.result (λ _. Adds (Asked k c.args.file.now) (string_bytes c.args.text.now) (string_bytes c.mark_file.new.text))) (sym c.in-Mark.is) c.mark_file.ensures

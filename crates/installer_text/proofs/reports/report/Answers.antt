@@ -9,7 +9,7 @@ loop-house-preserved c =
     let n = c.houses-houses.result in
     let h = c.loop-house.house in
     let left : suc (n - (h + 1)) ≡ n - h = omega arith in
-    ap (λ t. t ++ houses_text p (n - (h + 1)) (h + 1)) c.in-ok-report-house.ensures
+    ap (λ t. t ++ houses_text p (n - (h + 1)) (h + 1)) c.in_ok-report_house.ensures
     ∙ append_assoc (string_bytes c.loop-house.text) (house_text p h) (houses_text p (n - (h + 1)) (h + 1))
     ∙ ap (λ k. string_bytes c.loop-house.text ++ houses_text p k h) left
     ∙ c.loop-house.invariant
@@ -23,6 +23,6 @@ returns c =
     sym (append-nil (string_bytes c.loop-house.text))
     ∙ ap (λ k. string_bytes c.loop-house.text ++ houses_text p k h) none
     ∙ c.loop-house.invariant
-    ∙ ap (λ t. t ++ houses_text p n 0) c.in-ok-report-numbers.ensures
+    ∙ ap (λ t. t ++ houses_text p n 0) c.in_ok-report_numbers.ensures
     ∙ append_assoc (string_bytes c.args.text.now) (numbers_text p) (houses_text p n 0)
     ∙ ap (λ k. string_bytes c.args.text.now ++ (numbers_text p ++ houses_text p k 0)) c.houses-houses.ensures

@@ -9,4 +9,4 @@ one_letter (y ∷ z ∷ zs) long = absurd (omega arith)
 
 pub returns-then-word-eq1 : goal.returns-then-word-eq1
 returns-then-word-eq1 c =
-    subst (λ w. Named w c.of-letter.result) (one_letter c.args.word.now c.if-word-eq1.true) c.of-letter.ensures
+    subst (λ w. Named w c.of_letter.result) (one_letter c.args.word.now c.if-word-eq1.true) c.of_letter.ensures
