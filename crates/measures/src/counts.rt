@@ -1,5 +1,6 @@
 // A second count of readings, written apart from the library's and by another method: one plain loop for each question,
 // with no quantity in it. Its answers are texts.
+use crate::refusals::Refusal;
 use quantity::Reading;
 use std::alloc::{AllocError, Global};
 
@@ -17,15 +18,8 @@ fn in_limits(reading: &Reading) -> bool {
         && reading.flags >> 16 == 0
 }
 
-// A refusal by its number and its place.
-#[derive(Clone, Copy, PartialEq, Eq, Debug)]
-pub struct Refusal {
-    pub number: usize,
-    pub place: usize,
-}
-
 // The refusal of the list, or none where it is counted.
-pub fn refusal_of(readings: &[Reading]) -> Option<Refusal> {
+pub fn refusal(readings: &[Reading]) -> Option<Refusal> {
     if readings.len() > FEW {
         return Some(Refusal {
             number: 30,

@@ -7,6 +7,7 @@ mod files;
 mod quantities;
 mod random;
 mod readings;
+mod refusals;
 
 use carriers::carriers;
 use quantities::quantity_cases;

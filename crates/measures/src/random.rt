@@ -1,5 +1,5 @@
 // Pseudo-random lists of readings, counted by the library and by the second count.
-use crate::counts::refusal_of;
+use crate::counts::refusal;
 use crate::readings::{agree, list};
 use quantity::{Coldest, Flags, Gap, Load, Quantity, Reading};
 use std::alloc::{AllocError, Global};
@@ -111,7 +111,7 @@ fn refused_by(number: usize) -> usize {
     let mut lists: usize = 0;
     for _ in 0..LISTS {
         let next = source.list();
-        if let Some(refusal) = refusal_of(next.part()) {
+        if let Some(refusal) = refusal(next.part()) {
             if refusal.number == number {
                 lists = lists.saturating_add(1);
             }

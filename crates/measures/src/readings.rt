@@ -14,7 +14,7 @@ fn first<Q: Quantity>(heap: Global, readings: &[Reading]) -> Result<String, Allo
 
 // What the second count answers.
 fn second(heap: Global, letter: char, readings: &[Reading]) -> Result<String, AllocError> {
-    if let Some(refusal) = counts::refusal_of(readings) {
+    if let Some(refusal) = counts::refusal(readings) {
         let number = refusal.number;
         let place = refusal.place;
         return format!(in heap; "refused {number} {place}");
