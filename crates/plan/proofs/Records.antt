@@ -1,5 +1,5 @@
 -- Records in a part of a file, and the table of their lines.
-use Rattle.std.proofs.Common.{◌≡◌, ℕ, zero, suc, ◌+◌, ◌-◌, ◌*◌, ◌<◌, ◌≤◌, ◌≢◌, List, length, get_or, take, drop, set, replicate, sym, refl, ap, ◌∙◌, subst, add-zero, arith, below_more}
+use Rattle.std.proofs.Common.{◌≡◌, ℕ, zero, suc, ◌+◌, ◌*◌, ◌<◌, ◌≤◌, ◌≢◌, List, length, get_or, take, drop, set, replicate, sym, refl, ap, ◌∙◌, subst, add-zero, arith, below_more}
 use mathlib.Core.Path.{subst₃}
 use Rattle.std.proofs.lemmas.List.{get_or-take, get_or-drop, get_or-set_same, get_or-set_other}
 use Rattle.lines.specs.declared.lines.Line.{Line}

@@ -1,4 +1,4 @@
-use Rattle.std.proofs.Common.{◌-◌, ◌++◌, length, ap₂}
+use Rattle.std.proofs.Common.{◌++◌, length, ap₂}
 use native.Mathlib.Nat.{sub-zero}
 use Rattle.std.proofs.lemmas.List.{drop-replicate}
 use Rattle.plan.proofs.form.read_counters.Goals as goal
