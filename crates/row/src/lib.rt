@@ -2,8 +2,8 @@
 #![tactic(auto)]
 
 mod houses;
-mod lines;
 mod rounds;
+mod row_lines;
 mod rows;
 mod waiting;
 

@@ -3,8 +3,8 @@ ghost use Rattle.carrier.specs.Meanings.{SameIfRefused};
 ghost use Rattle.pulse.specs.Steps.{Begins, Loads, HandsOver, Sets, Reads};
 ghost use Rattle.row.specs.Rows.{state_of};
 
-use crate::lines::{end_of, put_on, take_off};
 use crate::rounds::{begin_round, count_hand_over, deliver_to, take_next};
+use crate::row_lines::{end_of, put_on, take_off};
 use crate::rows::Row;
 use carrier::{Carrier, Kind};
 use fault::Fault;

@@ -3,8 +3,8 @@ ghost use Rattle.row.specs.Rows.{state_of, new_state, Fits};
 ghost use Rattle.row.specs.Runs.{LedTo};
 ghost use Rattle.quantity.specs.Readings.{blank_reading};
 
-use crate::lines::is_fit;
 use crate::rounds::no_round;
+use crate::row_lines::is_fit;
 use crate::rows::Row;
 use carrier::Carrier;
 use plan::Plan;

@@ -2,7 +2,7 @@ use Rattle.std.proofs.Common.{◌≡◌, ◌+◌, ◌*◌, ◌<◌, [], ◌∷�
 use Rattle.std.proofs.ByRecursion.{All-push}
 use Rattle.std.proofs.lemmas.List.{take_all}
 use Rattle.std.proofs.lemmas.Slice.{pushed}
-use Rattle.std.specs.List.{AllByRecursion as All}
+use Rattle.std.specs.List.{AllByRecursion}
 use Rattle.words.specs.Hex.{hex_of}
 use Rattle.words.proofs.Digits.{hex_within, no_empty, no_odd, no_high, no_low, hex_more}
 use Rattle.words.proofs.hex.from_hex.Goals as goal
@@ -27,7 +27,7 @@ loop-i-preserved c =
     let grown = pushed ((16 * high + low) ∷ []) refl c.in_ok-push.was c.push.ensures.items in (
       ap hex_of grown
           ∙ hex_more c.args.word.now bs c.loop-i.i high low c.loop-i-test.true c.in-Some-digit.ensures.0 c.in-Some.ensures.1 c.in-Some-digit.ensures.1 c.loop-i.invariant.0,
-      subst (All (λ b. b < 256)) (sym grown) (All-push (λ b. b < 256) bs (16 * high + low) c.loop-i.invariant.1 (omega (arith, c.in-Some.ensures.0, c.in-Some-digit.ensures.0))),
+      subst (AllByRecursion (λ b. b < 256)) (sym grown) (All-push (λ b. b < 256) bs (16 * high + low) c.loop-i.invariant.1 (omega (arith, c.in-Some.ensures.0, c.in-Some-digit.ensures.0))),
     )
 
 pub returns : goal.returns

@@ -1,7 +1,7 @@
 use Rattle.std.proofs.Common.{sym, ◌∙◌, below_more}
 use Rattle.carrier.specs.Meanings.{on}
 use Rattle.row.proofs.Empty.{none_in}
-use Rattle.row.proofs.lines.all_empty.Goals as goal
+use Rattle.row.proofs.row_lines.all_empty.Goals as goal
 
 pub loop-line-preserved : goal.loop-line-preserved
 loop-line-preserved g c =
