@@ -2,7 +2,6 @@ ghost use Rattle.carrier.specs.declared.makes.Make.TheVariants.{Radio as TheRadi
 ghost use Rattle.carrier.specs.Makes.{Picks, TakesLatest};
 ghost use Rattle.carrier.specs.Meanings.{PutAnswer, TakeAnswer, Picked, SameIfRefused};
 ghost use Rattle.carrier.specs.Stores.{meaning_of, JustMade};
-ghost use Rattle.carrier.specs.declared.makes.Make.TheVariants as Thevariants;
 ghost use Rattle.carrier.specs.Picks.{pick_without};
 
 use crate::carriers::Carrier;
@@ -35,7 +34,7 @@ impl Carrier for Radio {
 
     ghost pick = { Picks TheRadio };
 
-    ghost among = { pick_without Thevariants.Radio };
+    ghost among = { pick_without TheRadio };
 
     fn lines(&self) -> usize {
         self.store.lines()

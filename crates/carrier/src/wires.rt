@@ -2,7 +2,6 @@ ghost use Rattle.carrier.specs.declared.makes.Make.TheVariants.{Wire as TheWire}
 ghost use Rattle.carrier.specs.Makes.{Picks, TakesEarliest};
 ghost use Rattle.carrier.specs.Meanings.{PutAnswer, TakeAnswer, Picked, SameIfRefused};
 ghost use Rattle.carrier.specs.Stores.{meaning_of, JustMade};
-ghost use Rattle.carrier.specs.declared.makes.Make.TheVariants as Thevariants;
 ghost use Rattle.carrier.specs.Picks.{pick_without};
 
 use crate::carriers::Carrier;
@@ -35,7 +34,7 @@ impl Carrier for Wire {
 
     ghost pick = { Picks TheWire };
 
-    ghost among = { pick_without Thevariants.Wire };
+    ghost among = { pick_without TheWire };
 
     fn lines(&self) -> usize {
         self.store.lines()

@@ -1,5 +1,5 @@
 -- Walks along lines.
-use Rattle.std.specs.Prelude.{◌≡◌, ℕ, ◌<◌, Bool, true, List, [], ◌∷◌, length, get_or, slice_index_or}
+use Rattle.std.specs.Prelude.{◌≡◌, ℕ, ◌<◌, Bool, true, List, [], ◌∷◌, length, slice_index_or}
 use Rattle.lines.specs.declared.lines.Line.{Line}
 use Rattle.lines.specs.declared.lines.Way.{Way}
 use Rattle.lines.specs.Lines.{blank}
@@ -8,7 +8,7 @@ use Rattle.lines.specs.Lines.{blank}
 abbrev pub Walk : (Line → Bool) → List Line → ℕ → List ℕ → ℕ → Type 0
 Walk p xs a [] b = a ≡ b
 Walk p xs a (i ∷ is) b =
-    (i < length xs) × (p (slice_index_or xs i blank) ≡ true) × ((get_or xs i blank).from ≡ a) × Walk p xs (get_or xs i blank).to is b
+    (i < length xs) × (p (slice_index_or xs i blank) ≡ true) × ((slice_index_or xs i blank).from ≡ a) × Walk p xs (slice_index_or xs i blank).to is b
 
 -- a walk between the head and a house: out from the head on the way of direct lines, home to it on that of back lines
 abbrev pub Route : Way → (Line → Bool) → List Line → ℕ → List ℕ → Type 0

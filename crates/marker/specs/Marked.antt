@@ -1,5 +1,5 @@
 -- What the marker makes of a draft, and when it refuses.
-use Rattle.std.specs.Prelude.{◌≡◌, ℕ, ◌<◌, ◌≤◌, Bool, true, false, ◌⊎◌, List, length, get_or, is_some, Some, None, Ok, Err, Decides, Option, Result, ◌==◌, slice_index_or}
+use Rattle.std.specs.Prelude.{◌≡◌, ℕ, ◌<◌, ◌≤◌, Bool, true, false, ◌⊎◌, List, length, is_some, Some, None, Ok, Err, Decides, Option, Result, ◌==◌, slice_index_or}
 use Rattle.fault.specs.declared.causes.Cause.{Cause}
 use Rattle.fault.specs.declared.causes.Cause.TheVariants.{NoWayFromHead, NoWayToHead}
 use Rattle.fault.specs.declared.faults.Fault.{Fault}
@@ -23,7 +23,7 @@ use Rattle.marker.specs.Distances.{Chosen, CutOff}
 abbrev pub SameEnds : List Line → List Line → Type 0
 SameEnds xs ys =
     (length xs ≡ length ys)
-    × ((i : ℕ) → ((get_or xs i blank).from ≡ (get_or ys i blank).from) × ((get_or xs i blank).to ≡ (get_or ys i blank).to))
+    × ((i : ℕ) → ((slice_index_or xs i blank).from ≡ (slice_index_or ys i blank).from) × ((slice_index_or xs i blank).to ≡ (slice_index_or ys i blank).to))
 
 -- e is the draft d marked anew: the same houses, lines and capacity; a line is direct exactly when it is the chosen line
 -- of the house that it enters, and back exactly when it is the chosen line of the house that it leaves; and each counter
@@ -34,7 +34,7 @@ Remarked d e =
     × (e.lines ≡ d.lines)
     × (e.capacity ≡ d.capacity)
     × SameEnds (lines_of d) (lines_of e)
-    × ((w : Way) (i : ℕ) → i < d.lines → Decides (marked w (get_or (lines_of e) i blank).marks) (Chosen w (lines_of d) (house_at (near w) (slice_index_or (lines_of d) i blank)) i))
+    × ((w : Way) (i : ℕ) → i < d.lines → Decides (marked w (slice_index_or (lines_of e) i blank).marks) (Chosen w (lines_of d) (house_at (near w) (slice_index_or (lines_of d) i blank)) i))
     × Kept Rule.Counters e
 
 -- THE REFUSALS

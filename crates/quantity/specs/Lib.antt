@@ -8,6 +8,7 @@ pub mod Extremes
 pub mod Sizes
 pub mod Flags
 pub mod Shown
+pub mod Totals
 pub mod Ranks
 pub mod Decided
 pub mod Same

@@ -1,8 +1,7 @@
 ghost use Rattle.std.specs.Prelude.{◌≡◌, ◌+◌, ◌/◌, ◌%◌, ◌^◌, Some};
-ghost use Rattle.std.proofs.Common.{ap, arith};
 ghost use Rattle.quantity.specs.Loads.{total_bits, load_sense, total};
 ghost use Rattle.quantity.specs.Shown.{load_shown};
-ghost use Rattle.quantity.specs.Same.{same_word, same_total};
+ghost use Rattle.quantity.specs.Totals.{load_laws};
 
 use crate::quantities::Quantity;
 use crate::readings::Reading;
@@ -74,15 +73,7 @@ impl Quantity for Load {
 
     ghost sense = { load_sense };
 
-    ghost laws = { record {
-      commutative = λ x y. same_total _ _ (omega arith) (omega arith);
-      associative = λ x y z. same_total _ _ (omega arith) (omega arith);
-      unit = λ x. same_total _ _ (omega (arith, x.fits)) (omega (arith, x.fits));
-      returned = λ x. ap Some (same_total _ _ (omega (arith, x.fits)) (omega (arith, x.fits)));
-      only = λ w x e.
-          let same : total (w.bits / 2 ^ 32) (w.bits % 2 ^ 32) ≡ x = cc in
-          same_word _ _ (omega (arith, ap (λ t. t.watts) same, ap (λ t. t.houses) same, w.fits));
-    } };
+    ghost laws = { load_laws };
 
     fn value(house: usize, reading: Reading) -> Total {
         if reading.usable(house) {
