@@ -13,7 +13,6 @@ import re
 WORD = r"[A-Za-z][\w']*(?:-[\w']+)+"
 TOKEN = re.compile(r"(?<![\w'.-])" + WORD + r"(?![\w'-])")
 DEFINED = re.compile(r"^\s*(?:(?:abbrev|unfoldable|pub|data|record|let)\s+)*(" + WORD + r")\s*(?:[({][^:]*:[^)}]*[)}]\s*)*:(?!:)(.*)")
-FIELD = re.compile(r"^\s+(" + WORD + r")\s*:")
 IMPORT = re.compile(r"\buse\s+Rattle\.(\w+)\.([\w.+-]+)\.\{([^}]*)\}")
 # names that would fall together with a cause of `fault`
 OTHERWISE = {"No-line": "HasNoLine", "No-form": "HasNoForm", "Wrong-record": "IsWrongRecord", "Wrong-counter": "RefusesWrongCounter"}
