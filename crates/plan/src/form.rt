@@ -18,13 +18,13 @@ impl Size {
     fn within_limits(self) -> Result<(), Fault>
         ensures { LimitsChecked self.houses self.lines self.capacity result }
     {
-        if self.houses < 1 || self.houses > 48 {
+        if !(1..=48).contains(&self.houses) {
             return Err(Fault::new(Cause::BeyondLimits, 5));
         }
         if self.lines > 128 {
             return Err(Fault::new(Cause::BeyondLimits, 6));
         }
-        if self.capacity < 1 || self.capacity > 4 {
+        if !(1..=4).contains(&self.capacity) {
             return Err(Fault::new(Cause::BeyondLimits, 8));
         }
         Ok(())
@@ -63,27 +63,21 @@ fn read_header(file: &[u8]) -> Result<Size, Fault>
 }
 
 // A line from its three bytes, the first of which is the file's byte `at`.
-fn read_record(bytes: &[u8], houses: usize, at: usize) -> Result<Line, Fault>
-    requires { (length bytes.now ≡ 3) × (at < 1000) }
+fn read_record(bytes: &[u8; 3], houses: usize, at: usize) -> Result<Line, Fault>
+    requires { at < 1000 }
     ensures { ReadRecord bytes.now houses at result }
 {
-    let [from, to, marks] = bytes else {
-        return unreachable();
-    };
-    if *from as usize >= houses {
+    let [from, to, marks] = *bytes;
+    if from as usize >= houses {
         return Err(Fault::new(Cause::WrongRecord, at));
     }
-    if *to as usize >= houses || *to == *from {
+    if to as usize >= houses || to == from {
         return Err(Fault::new(Cause::WrongRecord, at + 1));
     }
-    match Marks::numbered(*marks) {
-        Some(marks) => Ok(Line {
-            from: *from,
-            to: *to,
-            marks,
-        }),
-        None => Err(Fault::new(Cause::WrongRecord, at + 2)),
-    }
+    let Ok(marks) = Marks::try_from(marks) else {
+        return Err(Fault::new(Cause::WrongRecord, at + 2));
+    };
+    Ok(Line { from, to, marks })
 }
 
 // The lines of a file from its part that starts at byte 9.
@@ -92,8 +86,9 @@ fn read_records(part: &[u8], houses: usize, lines: usize) -> Result<[Line; 128],
     ensures { ReadRecords part.now houses lines result }
 {
     let mut records = [Line::BLANK; 128];
-    for i in 0..lines {
-        records[i] = read_record(&part[3 * i..3 * i + 3], houses, 9 + 3 * i)?;
+    let (parts, _) = part.as_chunks::<3>();
+    for (i, bytes) in parts[..lines].iter().enumerate() {
+        records[i] = read_record(bytes, houses, 9 + 3 * i)?;
     }
     Ok(records)
 }
@@ -104,7 +99,7 @@ fn read_counters(part: &[u8]) -> [u8; 48]
     ensures { result ≡ part.now ++ replicate (48 - length part.now) 0 }
 {
     let mut counters = [0; 48];
-    counters[0..part.len()].copy_from_slice(part);
+    counters[..part.len()].copy_from_slice(part);
     counters
 }
 

@@ -20,8 +20,8 @@ fn write_records(part: &mut [u8], lines: &[Line])
     requires { length part.old ≡ 3 * length lines.now }
     ensures { part.new ≡ flat_map record_of lines.now }
 {
-    for i in 0..lines.len() {
-        part[3 * i..3 * i + 3].copy_from_slice(&record_bytes(lines[i]));
+    for (i, line) in lines.iter().enumerate() {
+        part[3 * i..3 * i + 3].copy_from_slice(&record_bytes(*line));
     }
 }
 
@@ -60,9 +60,9 @@ impl Plan {
         if buffer.len() < length {
             return Err(Fault::new(Cause::BufferShort, length));
         }
-        buffer[0..9].copy_from_slice(&draft.header());
+        buffer[..9].copy_from_slice(&draft.header());
         write_records(&mut buffer[9..end], draft.list());
-        buffer[end..length].copy_from_slice(&draft.counters[0..draft.houses]);
+        buffer[end..length].copy_from_slice(&draft.counters[..draft.houses]);
         Ok(length)
     }
 }
