@@ -2,7 +2,7 @@
 use Rattle.std.proofs.Common.{◌≡◌, ℕ, zero, suc, ◌<◌, ◌≤◌, Bool, true, false, not, cond, List, [], ◌∷◌, length, get_or, count_by, Some, None, refl, ap, ⊎_elim, arith}
 use Rattle.std.proofs.lemmas.List.Sums.{get_or-le-sum_by, prefix_len_passes, sum_by-cons}
 use Rattle.std.specs.List.{position, position_or_len}
-use Rattle.std.proofs.lemmas.Bool.{cases_Bool, cases_lt, cond-true, cond-false, lt-ltb}
+use Rattle.std.proofs.lemmas.Bool.{cases_Bool, cases_lt, cond-true, cond-false, lt-ltb, not-true}
 
 pub untrue : (b : Bool) → (b ≡ true → ⊥) → b ≡ false
 untrue true no_way = absurd (no_way refl)
@@ -38,12 +38,8 @@ module _ {X : Type 0} (p : X → Bool) (d : X) where
   none_found xs none =
       ⊎_elim
       (λ lt. let found : position p xs ≡ Some (position_or_len p xs) = cond-true _ _ _ (lt-ltb (position_or_len p xs) (length xs) lt) in absurd cc)
-      (λ ge. none_counted xs (λ i h here. let fails : not (p (get_or xs i d)) ≡ true = prefix_len_passes (λ x. not (p x)) xs i d (omega arith) in absurd (both (p (get_or xs i d)) here fails)))
+      (λ ge. none_counted xs (λ i h here. let fails : p (get_or xs i d) ≡ false = not-true (p (get_or xs i d)) (prefix_len_passes (λ x. not (p x)) xs i d (omega arith)) in cc))
       (cases_lt (position_or_len p xs) (length xs))
-    where
-      both : (b : Bool) → b ≡ true → not b ≡ true → ⊥
-      both true e n = cc
-      both false e n = cc
 
   pub one_counted : (xs : List X) → ((i j : ℕ) → i < length xs → j < length xs → p (get_or xs i d) ≡ true → p (get_or xs j d) ≡ true → i ≡ j) → count_by p xs ≤ 1
   one_counted [] one = omega arith

@@ -38,13 +38,13 @@ fn read_header(file: &[u8]) -> Result<Size, Fault>
     let [r, o, w, version_high, version, n, m_high, m, k, rest @ ..] = file else {
         return Err(Fault::new(Cause::FileShort, file.len()));
     };
-    if *r != 0x52 {
+    if *r != b'R' {
         return Err(Fault::new(Cause::WrongMark, 0));
     }
-    if *o != 0x4F {
+    if *o != b'O' {
         return Err(Fault::new(Cause::WrongMark, 1));
     }
-    if *w != 0x57 {
+    if *w != b'W' {
         return Err(Fault::new(Cause::WrongMark, 2));
     }
     if *version_high != 0 || *version != 1 {
@@ -52,7 +52,7 @@ fn read_header(file: &[u8]) -> Result<Size, Fault>
     }
     let size = Size {
         houses: *n as usize,
-        lines: *m_high as usize * 256 + *m as usize,
+        lines: u16::from_be_bytes([*m_high, *m]) as usize,
         capacity: *k as usize,
     };
     size.within_limits()?;

@@ -31,19 +31,9 @@ impl Draft {
         ensures { result ≡ header self.now.houses self.now.lines self.now.capacity }
     {
         let n = self.houses as u8;
-        let m = self.lines;
+        let [m_high, m] = (self.lines as u16).to_be_bytes();
         let k = self.capacity as u8;
-        [
-            0x52,
-            0x4F,
-            0x57,
-            0,
-            1,
-            n,
-            (m / 256) as u8,
-            (m % 256) as u8,
-            k,
-        ]
+        [b'R', b'O', b'W', 0, 1, n, m_high, m, k]
     }
 }
 
