@@ -3,7 +3,7 @@ ghost use Rattle.lines.specs.declared.lines.End.TheVariants.{To};
 ghost use Rattle.lines.specs.declared.lines.Way.TheVariants.{Back};
 ghost use Rattle.lines.specs.Lines.{meets, serves};
 ghost use Rattle.plan.specs.declared.rules.Rule.TheVariants.{Single, Leading};
-ghost use Rattle.plan.specs.Rules.{lines_of, due, lowest, Keeps};
+ghost use Rattle.plan.specs.Rules.{lines_of, lowest, Keeps};
 ghost use Rattle.plan.specs.Judged.{Recounted, Ready, Kept, Checked, Judged};
 
 use crate::drafts::Draft;
@@ -12,13 +12,6 @@ use crate::rules::Rule;
 use fault::Fault;
 use lines::{End, Line, Way};
 use std::array;
-
-// How many lines of a tree serve a house: one each house but the head.
-fn due_count(house: usize) -> usize
-    ensures { result ≡ due house }
-{
-    if house == 0 { 0 } else { 1 }
-}
 
 impl Draft {
     // The lines, in the order of their numbers.
@@ -78,14 +71,15 @@ impl Draft {
         at == 0
     }
 
-    // Whether the rule is kept at the house. Where lines are followed, each house is known to have its own.
+    // Whether the rule is kept at the house: one line of a tree serves each house but the head. Where lines are followed,
+    // that is known of every house.
     fn keeps(&self, rule: Rule, house: usize) -> bool
         requires within { house < self.now.houses }
         requires ready { Ready rule self.now }
         ensures { MatchBool result (Keeps rule self.now house) (Keeps rule self.now house → ⊥) }
     {
         match rule {
-            Rule::Single(way) => self.count(way, way.near(), house) == due_count(house),
+            Rule::Single(way) => self.count(way, way.near(), house) == usize::from(house != 0),
             Rule::Leading(way) => self.leads(way, house),
             Rule::Counters => self.counters[house] == self.counter_of(house),
         }

@@ -26,7 +26,7 @@ returns-in_err-records c =
       (
         lt,
         (λ a h. right xs n (3 * a) (get_or c.loop-i.records a blank) (c.loop-i.invariant.1 a h).0 (c.loop-i.invariant.1 a h).1),
-        wrong_cut xs (3 * i) 3 (omega arith) n wrong.0 wrong.2,
+        wrong_cut xs (3 * i) n wrong.0 wrong.2,
       ),
     )
 
@@ -37,6 +37,6 @@ loop-i-preserved c =
     let lt : i < c.args.lines = omega (arith, c.loop-i-test.true, length-take-le c.args.lines c.as_chunks.result.0.now (omega (arith, c.as_chunks.ensures.front_len))) in
     let got = rw (part_is c.as_chunks.result.0.now xs c.args.lines i c.as_chunks.ensures.front c.requires.0 lt) at c.in_ok-records.ensures in (
       length-set c.loop-i.records i _ ∙ c.loop-i.invariant.0,
-      records_more xs c.args.houses i c.loop-i.records _ (omega arith) c.loop-i.invariant.1 (record_cut xs (3 * i) 3 (omega arith) _ got.0, got.1),
+      records_more xs c.args.houses i c.loop-i.records _ (omega arith) c.loop-i.invariant.1 (record_cut xs (3 * i) _ got.0, got.1),
       spare_more xs c.args.houses i c.loop-i.records _ c.loop-i.invariant.2,
     )
