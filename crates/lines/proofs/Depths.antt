@@ -1,7 +1,7 @@
 -- Depths below the number of houses: where every house of positive depth has one that is one less deep, every depth is
 -- below n. The houses of depth below k are counted, and each level adds one.
 use Rattle.std.proofs.Common.{◌≡◌, ℕ, zero, suc, ◌+◌, ◌-◌, ◌<◌, ◌≤◌, Bool, true, false, cond, ltb, refl, ◌∙◌, subst, ⊎_elim, add-zero, arith}
-use Rattle.std.proofs.lemmas.Bool.{cases_eq, cond-true, cond-false, le-ltb, lt-ltb, ltb-true}
+use Rattle.std.proofs.lemmas.Bool.{cases_eq, cond-true, cond-false, false≢true, le-ltb, lt-ltb, ltb-true}
 
 -- how many numbers below n pass the test
 tally : (ℕ → Bool) → ℕ → ℕ
@@ -19,10 +19,7 @@ tally_within f (suc n) = omega (arith, tally_within f n, one_at_most (f n))
 
 implied : (a b : Bool) → (a ≡ true → b ≡ true) → cond a 1 0 ≤ cond b 1 0
 implied true true h = omega arith
-implied true false h = absurd (let e : false ≡ true = h refl in never e)
-  where
-    never : false ≡ true → ⊥
-    never e = let z : ◌≡◌ {A = ℕ} 0 1 = cc in omega arith
+implied true false h = absurd (false≢true (h refl))
 implied false b h = omega arith
 
 tally_le : (f g : ℕ → Bool) (n : ℕ) → ((k : ℕ) → k < n → f k ≡ true → g k ≡ true) → tally f n ≤ tally g n

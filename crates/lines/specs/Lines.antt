@@ -1,8 +1,9 @@
 -- Lines, their marks, and what a line is to a house.
-use Rattle.std.specs.Prelude.{ℕ, ◌<◌, Bool, true, false, ◌&&◌, ◌≢◌, ◌==◌}
+use Rattle.std.specs.Prelude.{◌≡◌, ℕ, ◌<◌, Bool, true, false, ◌&&◌, ◌≢◌, ◌==◌, MatchResult, Result}
 use Rattle.lines.specs.declared.lines.End.{End}
 use Rattle.lines.specs.declared.lines.Line.{Line}
 use Rattle.lines.specs.declared.lines.Marks.{Marks}
+use Rattle.lines.specs.declared.lines.NoMarks.{NoMarks}
 use Rattle.lines.specs.declared.lines.Way.{Way}
 
 -- the number that a file has for the marks
@@ -11,6 +12,10 @@ marks_number Marks.Neither = 0
 marks_number Marks.Direct = 1
 marks_number Marks.Back = 2
 marks_number Marks.Both = 3
+
+-- the marks of that number, or none where it is above 3
+abbrev pub Numbered : ℕ → Result Marks NoMarks → Type 0
+Numbered number r = MatchResult r (λ marks. marks_number marks ≡ number) (λ e. (e.0 ≡ number) × (3 < number))
 
 -- the marks of a line that is direct or not, and back or not
 abbrev pub marks_of : Bool → Bool → Marks

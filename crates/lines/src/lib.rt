@@ -3,4 +3,4 @@
 
 mod lines;
 
-pub use lines::{End, Line, Marks, Way};
+pub use lines::{End, Line, Marks, NoMarks, Way};

@@ -1,5 +1,5 @@
-ghost use Rattle.std.specs.Prelude.{◌≡◌, ◌<◌, MatchOption};
-ghost use Rattle.lines.specs.Lines.{marks_number, marks_of, marked, near, beyond, house_at, meets};
+ghost use Rattle.std.specs.Prelude.{◌≡◌};
+ghost use Rattle.lines.specs.Lines.{marks_number, Numbered, marks_of, marked, near, beyond, house_at, meets};
 
 // How a line is marked, with the number that a file has for it.
 #[derive(Clone, Copy, PartialEq, Eq, Debug)]
@@ -9,6 +9,10 @@ pub enum Marks {
     Back = 2,
     Both = 3,
 }
+
+// A number that no marks have.
+#[derive(Clone, Copy, PartialEq, Eq, Debug)]
+pub struct NoMarks(pub u8);
 
 // The two spanning trees: requests go out along direct lines, responses come home along back lines.
 #[derive(Clone, Copy, PartialEq, Eq, Debug)]
@@ -39,19 +43,6 @@ impl Marks {
         self as u8
     }
 
-    // The marks of that number, or none where there are none.
-    pub fn numbered(number: u8) -> Option<Marks>
-        ensures { MatchOption result (3 < number) (λ m. marks_number m ≡ number) }
-    {
-        match number {
-            0 => Some(Marks::Neither),
-            1 => Some(Marks::Direct),
-            2 => Some(Marks::Back),
-            3 => Some(Marks::Both),
-            _ => None,
-        }
-    }
-
     // The marks of a line that belongs to these trees.
     pub fn of(direct: bool, back: bool) -> Marks
         ensures { result ≡ marks_of direct back }
@@ -71,6 +62,23 @@ impl Marks {
         match way {
             Way::Direct => matches!(self, Marks::Direct | Marks::Both),
             Way::Back => matches!(self, Marks::Back | Marks::Both),
+        }
+    }
+}
+
+impl TryFrom<u8> for Marks {
+    type Error = NoMarks;
+
+    ghost try_from_gives = { Numbered };
+
+    // The marks of that number, or none where there are none.
+    fn try_from(number: u8) -> Result<Marks, NoMarks> {
+        match number {
+            0 => Ok(Marks::Neither),
+            1 => Ok(Marks::Direct),
+            2 => Ok(Marks::Back),
+            3 => Ok(Marks::Both),
+            _ => Err(NoMarks(number)),
         }
     }
 }

@@ -46,23 +46,22 @@ module _ (d : Draft) where
       ∙ get_or-append-add (flat_map record_of (lines_of d)) (take d.houses d.counters) h 0
       ∙ get_or-take d.houses d.counters h 0 lt
 
+-- the marks of a number
+marks_at : ℕ → Marks
+marks_at zero = Marks.Neither
+marks_at (suc zero) = Marks.Direct
+marks_at (suc (suc zero)) = Marks.Back
+marks_at (suc (suc (suc n))) = Marks.Both
+
+marks_back : (x : Marks) → marks_at (marks_number x) ≡ x
+unfolding marks_at
+marks_back Marks.Neither = refl
+marks_back Marks.Direct = refl
+marks_back Marks.Back = refl
+marks_back Marks.Both = refl
+
 marks_are : (x y : Marks) → marks_number x ≡ marks_number y → x ≡ y
-marks_are Marks.Neither Marks.Neither e = refl
-marks_are Marks.Neither Marks.Direct e = absurd (omega arith)
-marks_are Marks.Neither Marks.Back e = absurd (omega arith)
-marks_are Marks.Neither Marks.Both e = absurd (omega arith)
-marks_are Marks.Direct Marks.Neither e = absurd (omega arith)
-marks_are Marks.Direct Marks.Direct e = refl
-marks_are Marks.Direct Marks.Back e = absurd (omega arith)
-marks_are Marks.Direct Marks.Both e = absurd (omega arith)
-marks_are Marks.Back Marks.Neither e = absurd (omega arith)
-marks_are Marks.Back Marks.Direct e = absurd (omega arith)
-marks_are Marks.Back Marks.Back e = refl
-marks_are Marks.Back Marks.Both e = absurd (omega arith)
-marks_are Marks.Both Marks.Neither e = absurd (omega arith)
-marks_are Marks.Both Marks.Direct e = absurd (omega arith)
-marks_are Marks.Both Marks.Back e = absurd (omega arith)
-marks_are Marks.Both Marks.Both e = refl
+marks_are x y e = sym (marks_back x) ∙ ap marks_at e ∙ marks_back y
 
 -- a record is of one line only
 one_line : (xs : List ℕ) (p : ℕ) (x y : Line) → RecordAt xs p x → RecordAt xs p y → x ≡ y

@@ -1,7 +1,8 @@
 -- A count of the elements that pass a test: where it is at most one, the element is the only one.
-use Rattle.std.proofs.Common.{◌≡◌, ℕ, zero, suc, ◌<◌, ◌≤◌, Bool, true, false, cond, List, [], ◌∷◌, length, get_or, count_by, refl, ap, ⊎_elim, arith}
-use Rattle.std.proofs.lemmas.List.Sums.{get_or-le-sum_by, sum_by-cons}
-use Rattle.std.proofs.lemmas.Bool.{cases_Bool, cond-true, cond-false}
+use Rattle.std.proofs.Common.{◌≡◌, ℕ, zero, suc, ◌<◌, ◌≤◌, Bool, true, false, not, cond, List, [], ◌∷◌, length, get_or, count_by, Some, None, refl, ap, ⊎_elim, arith}
+use Rattle.std.proofs.lemmas.List.Sums.{get_or-le-sum_by, prefix_len_passes, sum_by-cons}
+use Rattle.std.specs.List.{position, position_or_len}
+use Rattle.std.proofs.lemmas.Bool.{cases_Bool, cases_lt, cond-true, cond-false, lt-ltb, not-true}
 
 pub untrue : (b : Bool) → (b ≡ true → ⊥) → b ≡ false
 untrue true no_way = absurd (no_way refl)
@@ -31,6 +32,14 @@ module _ {X : Type 0} (p : X → Bool) (d : X) where
   none_counted (x ∷ xs) none =
       let off : ◌≡◌ {A = ℕ} (cond (p x) 1 0) 0 = cond-false (p x) 1 0 (untrue (p x) (none 0 (omega arith))) in
       omega (arith, off, sum_by-cons (λ y. cond (p y) 1 0) x xs, none_counted xs (λ i h. none (suc i) (omega arith)))
+
+  -- where no element is found, none is counted
+  pub none_found : (xs : List X) → position p xs ≡ None → count_by p xs ≡ 0
+  none_found xs none =
+      ⊎_elim
+      (λ lt. let found : position p xs ≡ Some (position_or_len p xs) = cond-true _ _ _ (lt-ltb (position_or_len p xs) (length xs) lt) in absurd cc)
+      (λ ge. none_counted xs (λ i h here. let fails : p (get_or xs i d) ≡ false = not-true (p (get_or xs i d)) (prefix_len_passes (λ x. not (p x)) xs i d (omega arith)) in cc))
+      (cases_lt (position_or_len p xs) (length xs))
 
   pub one_counted : (xs : List X) → ((i j : ℕ) → i < length xs → j < length xs → p (get_or xs i d) ≡ true → p (get_or xs j d) ≡ true → i ≡ j) → count_by p xs ≤ 1
   one_counted [] one = omega arith

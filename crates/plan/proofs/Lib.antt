@@ -1,9 +1,9 @@
 pub mod Accepted
 pub mod Bytes
 pub mod Counts
+pub mod Filled
 pub mod Files
 pub mod Forms
-mod Lowest
 pub mod Records
 mod Refusals
 pub mod Same

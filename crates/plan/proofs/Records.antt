@@ -1,7 +1,8 @@
 -- Records in a part of a file, and the table of their lines.
-use Rattle.std.proofs.Common.{◌≡◌, ℕ, zero, suc, ◌+◌, ◌*◌, ◌<◌, ◌≤◌, ◌≢◌, List, length, get_or, take, drop, set, replicate, sym, refl, ap, ◌∙◌, subst, add-zero, arith, below_more}
+use Rattle.std.proofs.Common.{◌≡◌, ℕ, zero, suc, ◌+◌, ◌*◌, ◌/◌, ◌<◌, ◌≤◌, ◌≢◌, List, [], length, get_or, take, drop, set, replicate, sym, refl, ap, ◌∙◌, subst, add-zero, arith, below_more}
 use mathlib.Core.Path.{subst₃}
-use Rattle.std.proofs.lemmas.List.{get_or-take, get_or-drop, get_or-set_same, get_or-set_other}
+use Rattle.std.proofs.lemmas.List.{get_or-take, get_or-drop, get_or-set_same, get_or-set_other, drop-drop}
+use Rattle.std.specs.Simd.{first_chunks}
 use Rattle.lines.specs.declared.lines.Line.{Line}
 use Rattle.lines.specs.declared.lines.Marks.{Marks}
 use Rattle.plan.specs.Files.{byte, RightRecord, IsWrongRecord}
@@ -13,19 +14,30 @@ all_alike x zero i = refl
 all_alike x (suc n) zero = refl
 all_alike x (suc n) (suc i) = all_alike x n i
 
--- a byte of a part of the file
-pub cut : (xs : List ℕ) (a w j : ℕ) → j < w → byte (take w (drop a xs)) j ≡ byte xs (a + j)
-cut xs a w j h = get_or-take w (drop a xs) j 0 h ∙ get_or-drop a xs j 0
+-- the part of record i
+part_of : (k : ℕ) (xs : List ℕ) (i : ℕ) → i < k → get_or (first_chunks 3 k xs) i [] ≡ take 3 (drop (3 * i) xs)
+part_of zero xs i h = absurd (omega arith)
+part_of (suc k) xs zero h = refl
+part_of (suc k) xs (suc i) h =
+    let e : 3 + 3 * i ≡ 3 * suc i = omega arith in
+    part_of k (drop 3 xs) i (omega arith) ∙ ap (take 3) (drop-drop (3 * i) 3 xs ∙ ap (λ j. drop j xs) e)
 
-module _ (xs : List ℕ) (a w : ℕ) (h : 3 ≤ w) where
-  first : byte (take w (drop a xs)) 0 ≡ byte xs a
-  first = cut xs a w 0 (omega arith) ∙ ap (byte xs) (add-zero a)
+pub part_is : (parts : List (List ℕ)) (xs : List ℕ) (m i : ℕ) → parts ≡ first_chunks 3 (length xs / 3) xs → 3 * m ≤ length xs → i < m → get_or (take m parts) i [] ≡ take 3 (drop (3 * i) xs)
+part_is parts xs m i are h lt = get_or-take m parts i [] lt ∙ ap (λ ps. get_or ps i []) are ∙ part_of (length xs / 3) xs i (omega arith)
 
-  pub record_cut : (l : Line) → RecordAt (take w (drop a xs)) 0 l → RecordAt xs a l
-  record_cut l r = (r.0 ∙ first, r.1 ∙ cut xs a w 1 (omega arith), r.2 ∙ cut xs a w 2 (omega arith))
+module _ (xs : List ℕ) (a : ℕ) where
+  -- a byte of a three-byte part
+  cut : (j : ℕ) → j < 3 → byte (take 3 (drop a xs)) j ≡ byte xs (a + j)
+  cut j h = get_or-take 3 (drop a xs) j 0 h ∙ get_or-drop a xs j 0
 
-  pub wrong_cut : (n j : ℕ) → IsWrongRecord n (byte (take w (drop a xs)) 0) (byte (take w (drop a xs)) 1) (byte (take w (drop a xs)) 2) j → IsWrongRecord n (byte xs a) (byte xs (a + 1)) (byte xs (a + 2)) j
-  wrong_cut n j = subst₃ (λ x y z. IsWrongRecord n x y z j) first (cut xs a w 1 (omega arith)) (cut xs a w 2 (omega arith))
+  first : byte (take 3 (drop a xs)) 0 ≡ byte xs a
+  first = cut 0 (omega arith) ∙ ap (byte xs) (add-zero a)
+
+  pub record_cut : (l : Line) → RecordAt (take 3 (drop a xs)) 0 l → RecordAt xs a l
+  record_cut l r = (r.0 ∙ first, r.1 ∙ cut 1 (omega arith), r.2 ∙ cut 2 (omega arith))
+
+  pub wrong_cut : (n j : ℕ) → IsWrongRecord n (byte (take 3 (drop a xs)) 0) (byte (take 3 (drop a xs)) 1) (byte (take 3 (drop a xs)) 2) j → IsWrongRecord n (byte xs a) (byte xs (a + 1)) (byte xs (a + 2)) j
+  wrong_cut n j = subst₃ (λ x y z. IsWrongRecord n x y z j) first (cut 1 (omega arith)) (cut 2 (omega arith))
 
 marks_few : (l : Line) → marks_number l.marks ≤ 3
 marks_few l = elim l.marks as (λ m. marks_number m ≤ 3) [ Marks.Neither ↦ omega arith | Marks.Direct ↦ omega arith | Marks.Back ↦ omega arith | Marks.Both ↦ omega arith ]

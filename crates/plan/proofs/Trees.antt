@@ -1,6 +1,6 @@
 -- The rules of a tree, and the tree: each says the other.
 use Rattle.std.proofs.Common.{◌≡◌, ℕ, zero, suc, ◌-◌, ◌<◌, ◌≤◌, Bool, true, eqb, List, [], ◌∷◌, length, get_or, count_by, sym, refl, ap, ◌∙◌, subst, inl, inr, ⊎_elim, arith}
-use Rattle.std.proofs.lemmas.Bool.{and_from, and_parts, cases_eq, cases_lt, cond-false, eq-eqb, eqb-true, ne_eqb}
+use Rattle.std.proofs.lemmas.Bool.{and_from, and_parts, cases_eq, cases_lt, eq-eqb, eqb-true}
 use Rattle.lines.proofs.Depths.{shallow}
 use Rattle.lines.proofs.Trails.{Trail}
 use Rattle.lines.specs.declared.lines.Line.{Line}
@@ -13,7 +13,7 @@ use Rattle.plan.specs.Judged.{Kept}
 use Rattle.plan.specs.Rules.{lines_of, due, Leads}
 use Rattle.plan.proofs.Counts.{counted, sole, none_counted, one_counted}
 use Rattle.plan.proofs.Forms.{form_of}
-use Rattle.plan.proofs.Ways.{end_below}
+use Rattle.plan.proofs.Ways.{end_below, due_few, due_house}
 
 abbrev pub in_tree : Way → Line → Bool
 in_tree w l = marked w l.marks
@@ -29,12 +29,6 @@ served w h l s =
 
 due_head : due 0 ≡ 0
 due_head = refl
-
-due_house : (h : ℕ) → (h ≡ 0 → ⊥) → due h ≡ 1
-due_house h far = cond-false (eqb h 0) 0 1 (ne_eqb h 0 far)
-
-due_few : (h : ℕ) → due h ≤ 1
-due_few h = ⊎_elim (λ e. subst (λ k. due k ≤ 1) (sym e) (omega arith)) (λ far. omega (arith, due_house h far)) (cases_eq h 0)
 
 module _ (d : Draft) (w : Way) where
   ends : (i : ℕ) → i < length (lines_of d) → house_at (beyond w) (get_or (lines_of d) i blank) < d.houses

@@ -1,12 +1,15 @@
 -- The rules in the order of their numbers.
-use Rattle.std.proofs.Common.{◌≡◌, ℕ, ◌-◌, ◌<◌, [], get_or, take, count_by, sym, ap, ◌∙◌, subst, arith}
+use Rattle.std.proofs.Common.{◌≡◌, ℕ, ◌-◌, ◌<◌, [], get_or, take, count_by, Ok, Err, Result, sym, ap, ◌∙◌, subst, arith}
+use Rattle.std.specs.Result.{IsErrAnd}
+use Rattle.fault.specs.declared.faults.Fault.{Fault}
 use Rattle.fault.specs.Numbers.{number}
 use Rattle.plan.specs.declared.drafts.Draft.{Draft}
 use Rattle.lines.specs.declared.lines.End.{End}
 use Rattle.lines.specs.declared.lines.Way.{Way}
+use Rattle.plan.specs.declared.plans.Plan.{Plan}
 use Rattle.plan.specs.declared.rules.Rule.{Rule}
 use Rattle.plan.specs.Causes.{cause_of}
-use Rattle.plan.specs.Judged.{Kept}
+use Rattle.plan.specs.Judged.{Checked, Judged, Kept}
 use Rattle.lines.specs.Lines.{meets, serves}
 use Rattle.plan.specs.Rules.{lines_of, Keeps}
 use Rattle.plan.proofs.Ways.{head_leads}
@@ -44,6 +47,11 @@ module _ (d : Draft) where
   every a b e f g (Rule.Single Way.Back) = e
   every a b e f g (Rule.Leading Way.Back) = f
   every a b e f g Rule.Counters = g
+
+-- what the judge answers where a check refuses, and every rule of a lower number is kept
+pub refuses : (d : Draft) (rule : Rule) (r : Result Plan Fault) (v : Fault) → IsErrAnd r (λ y. y ≡ v) → Checked rule d (Err v) → Below (number (cause_of rule)) d → Judged d r
+refuses d rule (Ok p) v same broken before = absurd same
+refuses d rule (Err y) v same broken before = rw same (rule, broken.0, broken.1, before)
 
 -- one house with no line and a counter of 0 keeps every rule
 module _ (d : Draft) (one : d.houses ≡ 1) (none : d.lines ≡ 0) (idle : get_or d.counters 0 0 ≡ 0) where

@@ -1,14 +1,10 @@
 -- What the judge answers of a draft.
-use Rattle.std.specs.Prelude.{◌≡◌, ℕ, ◌<◌, ◌≤◌, List, length, Ok, Err, count_by, Result, slice_index}
+use Rattle.std.specs.Prelude.{◌≡◌, ℕ, ◌<◌, Ok, Err, Result}
 use Rattle.fault.specs.declared.faults.Fault.{Fault}
 use Rattle.fault.specs.Layers.{fault_at}
 use Rattle.fault.specs.Numbers.{number}
 use Rattle.plan.specs.declared.drafts.Draft.{Draft}
 use Rattle.plan.specs.declared.plans.Plan.{Plan}
-use Rattle.lines.specs.declared.lines.End.{End}
-use Rattle.lines.specs.declared.lines.Line.{Line}
-use Rattle.lines.specs.declared.lines.Way.{Way}
-use Rattle.lines.specs.Lines.{meets}
 use Rattle.plan.specs.declared.rules.Rule.{Rule}
 use Rattle.plan.specs.Causes.{cause_of}
 use Rattle.plan.specs.Rules.{Keeps}
@@ -44,13 +40,6 @@ Misjudged d v =
 abbrev pub Judged : Draft → Result Plan Fault → Type 0
 Judged d (Ok p) = p.draft ≡ d
 Judged d (Err v) = Misjudged d v
-
--- a table of counters: for each house the number of back lines that enter it, and 0 for what is no house
-abbrev pub CountersOf : List Line → ℕ → List ℕ → Type 0
-CountersOf xs n cs =
-    (length cs ≡ 48)
-    × ((h : ℕ) → h < n → slice_index cs h ≡ count_by (meets Way.Back End.To h) xs)
-    × ((h : ℕ) → n ≤ h → slice_index cs h ≡ 0)
 
 -- the same draft but for its counters, which are right
 abbrev pub Recounted : Draft → Draft → Type 0

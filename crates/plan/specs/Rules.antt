@@ -1,5 +1,5 @@
 -- The five rules of right marks, each at one house.
-use Rattle.std.specs.Prelude.{◌≡◌, ℕ, zero, suc, ◌-◌, ◌<◌, Bool, true, cond, ◌⊎◌, List, [], ◌∷◌, length, take, Some, None, count_by, Option, ◌==◌, ◌≢◌, slice_index, slice_index_or}
+use Rattle.std.specs.Prelude.{◌≡◌, ℕ, zero, suc, ◌-◌, ◌<◌, Bool, true, cond, ◌⊎◌, List, length, take, count_by, position, Option, ◌==◌, slice_index, slice_index_or}
 use Rattle.plan.specs.declared.drafts.Draft.{Draft}
 use Rattle.lines.specs.declared.lines.End.{End}
 use Rattle.lines.specs.declared.lines.Line.{Line}
@@ -10,11 +10,6 @@ use Rattle.lines.specs.Lines.{blank, house_at, beyond, meets, serves}
 -- the lines of a draft, in the order of their numbers
 abbrev pub lines_of : Draft → List Line
 lines_of d = take d.lines d.records
-
--- the next number, where there is one
-abbrev pub one_up : Option ℕ → Option ℕ
-one_up None = None
-one_up (Some i) = Some (suc i)
 
 -- how many lines of a tree serve a house: one each house but the head, and none the head
 abbrev pub due : ℕ → ℕ
@@ -29,17 +24,7 @@ Leads w xs (suc s) h =
 
 -- the number of the lowest-numbered line that passes the test
 abbrev pub lowest : (Line → Bool) → List Line → Option ℕ
-lowest p [] = None
-lowest p (x ∷ xs) = cond (p x) (Some 0) (one_up (lowest p xs))
-
--- no line of the tree serves the house
-abbrev pub NoServer : Way → List Line → ℕ → Type 0
-NoServer w xs h = (i : ℕ) → i < length xs → serves w h (slice_index_or xs i blank) ≢ true
-
--- i is the lowest-numbered line of the tree that serves the house
-abbrev pub FirstServer : Way → List Line → ℕ → ℕ → Type 0
-FirstServer w xs h i =
-    (i < length xs) × (serves w h (slice_index_or xs i blank) ≡ true) × ((j : ℕ) → j < i → serves w h (slice_index_or xs j blank) ≢ true)
+lowest p xs = position p xs
 
 -- Single: exactly one direct line enters each house but the head, and none enters the head; exactly one back line
 -- leaves each house but the head, and none leaves the head.

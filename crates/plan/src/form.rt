@@ -18,13 +18,13 @@ impl Size {
     fn within_limits(self) -> Result<(), Fault>
         ensures { LimitsChecked self.houses self.lines self.capacity result }
     {
-        if self.houses < 1 || self.houses > 48 {
+        if !(1..=48).contains(&self.houses) {
             return Err(Fault::new(Cause::BeyondLimits, 5));
         }
         if self.lines > 128 {
             return Err(Fault::new(Cause::BeyondLimits, 6));
         }
-        if self.capacity < 1 || self.capacity > 4 {
+        if !(1..=4).contains(&self.capacity) {
             return Err(Fault::new(Cause::BeyondLimits, 8));
         }
         Ok(())
@@ -38,13 +38,13 @@ fn read_header(file: &[u8]) -> Result<Size, Fault>
     let [r, o, w, version_high, version, n, m_high, m, k, rest @ ..] = file else {
         return Err(Fault::new(Cause::FileShort, file.len()));
     };
-    if *r != 0x52 {
+    if *r != b'R' {
         return Err(Fault::new(Cause::WrongMark, 0));
     }
-    if *o != 0x4F {
+    if *o != b'O' {
         return Err(Fault::new(Cause::WrongMark, 1));
     }
-    if *w != 0x57 {
+    if *w != b'W' {
         return Err(Fault::new(Cause::WrongMark, 2));
     }
     if *version_high != 0 || *version != 1 {
@@ -52,7 +52,7 @@ fn read_header(file: &[u8]) -> Result<Size, Fault>
     }
     let size = Size {
         houses: *n as usize,
-        lines: *m_high as usize * 256 + *m as usize,
+        lines: u16::from_be_bytes([*m_high, *m]) as usize,
         capacity: *k as usize,
     };
     size.within_limits()?;
@@ -63,27 +63,21 @@ fn read_header(file: &[u8]) -> Result<Size, Fault>
 }
 
 // A line from its three bytes, the first of which is the file's byte `at`.
-fn read_record(bytes: &[u8], houses: usize, at: usize) -> Result<Line, Fault>
-    requires { (length bytes.now ≡ 3) × (at < 1000) }
+fn read_record(bytes: &[u8; 3], houses: usize, at: usize) -> Result<Line, Fault>
+    requires { at < 1000 }
     ensures { ReadRecord bytes.now houses at result }
 {
-    let [from, to, marks] = bytes else {
-        return unreachable();
-    };
-    if *from as usize >= houses {
+    let [from, to, marks] = *bytes;
+    if from as usize >= houses {
         return Err(Fault::new(Cause::WrongRecord, at));
     }
-    if *to as usize >= houses || *to == *from {
+    if to as usize >= houses || to == from {
         return Err(Fault::new(Cause::WrongRecord, at + 1));
     }
-    match Marks::numbered(*marks) {
-        Some(marks) => Ok(Line {
-            from: *from,
-            to: *to,
-            marks,
-        }),
-        None => Err(Fault::new(Cause::WrongRecord, at + 2)),
-    }
+    let Ok(marks) = Marks::try_from(marks) else {
+        return Err(Fault::new(Cause::WrongRecord, at + 2));
+    };
+    Ok(Line { from, to, marks })
 }
 
 // The lines of a file from its part that starts at byte 9.
@@ -92,8 +86,9 @@ fn read_records(part: &[u8], houses: usize, lines: usize) -> Result<[Line; 128],
     ensures { ReadRecords part.now houses lines result }
 {
     let mut records = [Line::BLANK; 128];
-    for i in 0..lines {
-        records[i] = read_record(&part[3 * i..3 * i + 3], houses, 9 + 3 * i)?;
+    let (parts, _) = part.as_chunks::<3>();
+    for (i, bytes) in parts[..lines].iter().enumerate() {
+        records[i] = read_record(bytes, houses, 9 + 3 * i)?;
     }
     Ok(records)
 }
@@ -104,7 +99,7 @@ fn read_counters(part: &[u8]) -> [u8; 48]
     ensures { result ≡ part.now ++ replicate (48 - length part.now) 0 }
 {
     let mut counters = [0; 48];
-    counters[0..part.len()].copy_from_slice(part);
+    counters[..part.len()].copy_from_slice(part);
     counters
 }
 

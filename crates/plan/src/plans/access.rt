@@ -5,7 +5,6 @@ ghost use Rattle.plan.specs.Rules.{lines_of, lowest};
 
 use crate::drafts::Draft;
 use crate::plans::Plan;
-use crate::plans::judge::server;
 use lines::{Line, Way};
 
 impl Plan {
@@ -56,22 +55,14 @@ impl Plan {
     pub fn line(&self, line: usize) -> Option<Line>
         ensures { MatchOption result (self.now.draft.lines ≤ line) (λ x. (line < self.now.draft.lines) × (x ≡ slice_index_or self.now.draft.records line blank)) }
     {
-        if line < self.lines() {
-            Some(self.draft.records[line])
-        } else {
-            None
-        }
+        self.list().get(line).copied()
     }
 
     // The counter of the house, or none beyond the plan.
     pub fn counter(&self, house: usize) -> Option<u8>
         ensures { MatchOption result (self.now.draft.houses ≤ house) (λ x. (house < self.now.draft.houses) × (x ≡ slice_index self.now.draft.counters house)) }
     {
-        if house < self.houses() {
-            Some(self.draft.counters[house])
-        } else {
-            None
-        }
+        self.draft.counters[..self.houses()].get(house).copied()
     }
 
     // The number of the direct line that enters the house, or of the back line that leaves it; none for the head, and
@@ -79,6 +70,6 @@ impl Plan {
     pub fn server(&self, way: Way, house: usize) -> Option<usize>
         ensures { result ≡ lowest (serves way house) (lines_of self.now.draft) }
     {
-        server(self.list(), way, house)
+        self.draft.server(way, house)
     }
 }

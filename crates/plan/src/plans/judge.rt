@@ -1,123 +1,87 @@
-ghost use Rattle.std.specs.Prelude.{◌≡◌, ℕ, ◌-◌, ◌<◌, ◌≤◌, length, MatchBool, count_by, MatchOption, slice_index_or};
+ghost use Rattle.std.specs.Prelude.{◌≡◌, ◌<◌, MatchBool, count_by};
 ghost use Rattle.lines.specs.declared.lines.End.TheVariants.{To};
 ghost use Rattle.lines.specs.declared.lines.Way.TheVariants.{Back};
-ghost use Rattle.lines.specs.Lines.{blank, meets, serves, InForm};
-ghost use Rattle.plan.specs.Rules.{lines_of, due, Leads, FirstServer, NoServer, Keeps};
-ghost use Rattle.plan.specs.Judged.{CountersOf, Recounted, Ready, Checked, Judged};
+ghost use Rattle.lines.specs.Lines.{meets, serves};
+ghost use Rattle.plan.specs.declared.rules.Rule.TheVariants.{Single, Leading};
+ghost use Rattle.plan.specs.Rules.{lines_of, lowest, Keeps};
+ghost use Rattle.plan.specs.Judged.{Recounted, Ready, Kept, Checked, Judged};
 
 use crate::drafts::Draft;
 use crate::plans::Plan;
 use crate::rules::Rule;
 use fault::Fault;
 use lines::{End, Line, Way};
-
-// How many lines of the tree have the house at that end.
-fn count(lines: &[Line], way: Way, end: End, house: usize) -> usize
-    ensures value { result ≡ count_by (meets way end house) lines.now }
-    ensures within { result ≤ length lines.now }
-{
-    let mut count = 0;
-    for line in lines {
-        if line.meets(way, end, house) {
-            count += 1;
-        }
-    }
-    count
-}
-
-// The lowest-numbered line of the tree that serves the house.
-pub(crate) fn server(lines: &[Line], way: Way, house: usize) -> Option<usize>
-    ensures { MatchOption result (NoServer way lines.now house) (FirstServer way lines.now house) }
-{
-    for i in 0..lines.len() {
-        if lines[i].meets(way, way.near(), house) {
-            return Some(i);
-        }
-    }
-    None
-}
-
-// Whether lines of the tree lead from the house to the head within n - 1 steps, where one at most serves each house.
-fn leads(lines: &[Line], way: Way, houses: usize, house: usize) -> bool
-    requires within { house < houses }
-    requires form { (i : ℕ) → i < length lines.now → InForm houses (slice_index_or lines.now i blank) }
-    requires single { (h : ℕ) → h < houses → count_by (serves way h) lines.now ≡ due h }
-    ensures { MatchBool result (Leads way lines.now (houses - 1) house) (Leads way lines.now (houses - 1) house → ⊥) }
-{
-    let mut at = house;
-    for step in 1..houses {
-        if at == 0 {
-            return true;
-        }
-        match server(lines, way, at) {
-            Some(i) => at = lines[i].at(way.beyond()) as usize,
-            None => return false,
-        }
-    }
-    at == 0
-}
-
-// The number of back lines that enter the house.
-fn counter_of(lines: &[Line], house: usize) -> u8
-    requires { length lines.now ≤ 128 }
-    ensures { result ≡ count_by (meets Back To house) lines.now }
-{
-    count(lines, Way::Back, End::To, house) as u8
-}
-
-// For each house the number of back lines that enter it, and 0 for what is no house.
-fn counters_of(lines: &[Line], houses: usize) -> [u8; 48]
-    requires { (houses ≤ 48) × (length lines.now ≤ 128) }
-    ensures { CountersOf lines.now houses result }
-{
-    let mut counters = [0; 48];
-    for house in 0..houses {
-        counters[house] = counter_of(lines, house);
-    }
-    counters
-}
-
-// How many lines of a tree serve a house: one each house but the head.
-fn due_count(house: usize) -> usize
-    ensures { result ≡ due house }
-{
-    if house == 0 { 0 } else { 1 }
-}
+use std::array;
 
 impl Draft {
     // The lines, in the order of their numbers.
     pub fn list(&self) -> &[Line]
         ensures { result.now ≡ lines_of self.now }
     {
-        &self.records[0..self.lines]
+        &self.records[..self.lines]
     }
 
-    // This draft with the counters that its back lines give.
-    pub fn counted(self) -> Draft
+    // How many lines of the tree have the house at that end.
+    fn count(&self, way: Way, end: End, house: usize) -> usize
+        ensures { result ≡ count_by (meets way end house) (lines_of self.now) }
+    {
+        self.list()
+            .iter()
+            .filter(|line| line.meets(way, end, house))
+            .count()
+    }
+
+    // The number of back lines that enter the house.
+    fn counter_of(&self, house: usize) -> u8
+        ensures { result ≡ count_by (meets Back To house) (lines_of self.now) }
+    {
+        self.count(Way::Back, End::To, house) as u8
+    }
+
+    // This draft with the counters that its back lines give: none enters what is no house.
+    pub fn counted(mut self) -> Draft
         ensures { Recounted self result }
     {
-        let counters = counters_of(self.list(), self.houses);
-        Draft {
-            houses: self.houses,
-            lines: self.lines,
-            capacity: self.capacity,
-            records: self.records,
-            counters,
-        }
+        self.counters = array::from_fn(|house| self.counter_of(house));
+        self
     }
 
-    // Whether the rule is kept at the house. Where lines are followed, each house is known to have its own.
+    // The lowest-numbered line of the tree that serves the house.
+    pub(crate) fn server(&self, way: Way, house: usize) -> Option<usize>
+        ensures { result ≡ lowest (serves way house) (lines_of self.now) }
+    {
+        self.list()
+            .iter()
+            .position(|line| line.meets(way, way.near(), house))
+    }
+
+    // Whether lines of the tree lead from the house to the head within n - 1 steps, where each house has its own line.
+    fn leads(&self, way: Way, house: usize) -> bool
+        requires within { house < self.now.houses }
+        requires single { Kept (Single way) self.now }
+        ensures { MatchBool result (Keeps (Leading way) self.now house) (Keeps (Leading way) self.now house → ⊥) }
+    {
+        let mut at = house;
+        for _step in 1..self.houses {
+            let Some(line) = self.server(way, at) else {
+                break;
+            };
+            at = self.records[line].at(way.beyond()) as usize;
+        }
+        at == 0
+    }
+
+    // Whether the rule is kept at the house: one line of a tree serves each house but the head. Where lines are followed,
+    // that is known of every house.
     fn keeps(&self, rule: Rule, house: usize) -> bool
         requires within { house < self.now.houses }
         requires ready { Ready rule self.now }
         ensures { MatchBool result (Keeps rule self.now house) (Keeps rule self.now house → ⊥) }
     {
-        let lines = self.list();
         match rule {
-            Rule::Single(way) => count(lines, way, way.near(), house) == due_count(house),
-            Rule::Leading(way) => leads(lines, way, self.houses, house),
-            Rule::Counters => self.counters[house] as usize
-                == count(lines, Way::Back, End::To, house),
+            Rule::Single(way) => self.count(way, way.near(), house) == usize::from(house != 0),
+            Rule::Leading(way) => self.leads(way, house),
+            Rule::Counters => self.counters[house] == self.counter_of(house),
         }
     }
 

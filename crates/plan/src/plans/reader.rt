@@ -11,8 +11,7 @@ pub(crate) fn plan_in(file: &[u8]) -> Result<Plan, Fault>
     ensures own { OwnPlan file.now result }
     ensures trees { AcceptsTrees file.now (is_ok result) }
 {
-    let draft = Draft::read(file)?;
-    draft.judge()
+    Draft::read(file)?.judge()
 }
 
 // Fills the place with the plan whose file this is, or refuses it and leaves the place as it was. The file of a plan

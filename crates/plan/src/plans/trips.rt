@@ -7,24 +7,13 @@ use crate::plans::reader::plan_in;
 use fault::Fault;
 
 impl Plan {
-    // What the reader makes of this plan's own file, at the front of the buffer: this plan.
-    fn read_back(&self, buffer: &[u8], length: usize) -> Plan
-        requires { (length ≤ count buffer.now) × (take length buffer.now ≡ file_of self.now.draft) }
-        ensures { result ≡ self.now }
-    {
-        match plan_in(&buffer[0..length]) {
-            Ok(plan) => plan,
-            Err(_) => unreachable(),
-        }
-    }
-
     // Writes the plan into the buffer, reads it back from there and answers what came back: this plan. Refuses only a
     // buffer that is too short, and then writes nothing.
     pub fn reread(&self, buffer: &mut [u8]) -> Result<Plan, Fault>
         ensures { Reread self.now buffer.old result buffer.new }
     {
         let length = self.write(buffer)?;
-        Ok(self.read_back(buffer, length))
+        plan_in(&buffer[..length])
     }
 }
 

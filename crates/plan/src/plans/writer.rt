@@ -20,8 +20,8 @@ fn write_records(part: &mut [u8], lines: &[Line])
     requires { length part.old ≡ 3 * length lines.now }
     ensures { part.new ≡ flat_map record_of lines.now }
 {
-    for i in 0..lines.len() {
-        part[3 * i..3 * i + 3].copy_from_slice(&record_bytes(lines[i]));
+    for (i, line) in lines.iter().enumerate() {
+        part[3 * i..3 * i + 3].copy_from_slice(&record_bytes(*line));
     }
 }
 
@@ -31,19 +31,9 @@ impl Draft {
         ensures { result ≡ header self.now.houses self.now.lines self.now.capacity }
     {
         let n = self.houses as u8;
-        let m = self.lines;
+        let [m_high, m] = (self.lines as u16).to_be_bytes();
         let k = self.capacity as u8;
-        [
-            0x52,
-            0x4F,
-            0x57,
-            0,
-            1,
-            n,
-            (m / 256) as u8,
-            (m % 256) as u8,
-            k,
-        ]
+        [b'R', b'O', b'W', 0, 1, n, m_high, m, k]
     }
 }
 
@@ -60,9 +50,9 @@ impl Plan {
         if buffer.len() < length {
             return Err(Fault::new(Cause::BufferShort, length));
         }
-        buffer[0..9].copy_from_slice(&draft.header());
+        buffer[..9].copy_from_slice(&draft.header());
         write_records(&mut buffer[9..end], draft.list());
-        buffer[end..length].copy_from_slice(&draft.counters[0..draft.houses]);
+        buffer[end..length].copy_from_slice(&draft.counters[..draft.houses]);
         Ok(length)
     }
 }

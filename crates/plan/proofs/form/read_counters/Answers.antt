@@ -1,7 +1,6 @@
 use Rattle.std.proofs.Common.{◌++◌, length, ap₂}
-use native.Mathlib.Nat.{sub-zero}
 use Rattle.std.proofs.lemmas.List.{drop-replicate}
 use Rattle.plan.proofs.form.read_counters.Goals as goal
 
 pub returns : goal.returns
-returns c = simp sub-zero (ap₂ ◌++◌ c.copy_from_slice.ensures.after (drop-replicate (length c.args.part.now) 48 0))
+returns c = ap₂ ◌++◌ c.copy_from_slice.ensures.after (drop-replicate (length c.args.part.now) 48 0)

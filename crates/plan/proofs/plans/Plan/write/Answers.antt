@@ -1,5 +1,4 @@
 use Rattle.std.proofs.Common.{◌≡◌, ◌+◌, ◌-◌, ◌*◌, List, ◌++◌, length, take, drop, sym, refl, ap, ◌∙◌, ap₂, arith}
-use native.Mathlib.Nat.{sub-zero}
 use borrow.Rule.Slice.PartMut.{put_mid}
 use Rattle.fault.specs.declared.causes.Cause.TheVariants.{BufferShort}
 use Rattle.fault.specs.Layers.{fault_at}
@@ -30,7 +29,7 @@ returns c =
     let n = d.houses in
     let h_is : h ≡ header d.houses d.lines d.capacity = c.copy_from_slice.ensures.after ∙ c.header.ensures in
     let r_is : r ≡ flat_map record_of (lines_of d) = c.write_records.ensures ∙ ap (flat_map record_of) c.list.ensures in
-    let t_is : t ≡ take n d.counters = c.copy_from_slice-2.ensures.after ∙ ap (λ k. take k d.counters) (sub-zero n) in
+    let t_is : t ≡ take n d.counters = c.copy_from_slice-2.ensures.after in
     let h_long : length h ≡ 9 = ap length h_is in
     let r_long : length r ≡ m = ap length r_is ∙ records_length (lines_of d) ∙ ap (λ k. 3 * k) (length_lines d) in
     let t_long : length t ≡ n = ap length t_is ∙ length-take-le n d.counters (omega arith) in
