@@ -8,7 +8,7 @@ use Rattle.lines.specs.declared.lines.Line.{Line}
 use Rattle.lines.specs.declared.lines.Way.{Way}
 use Rattle.lines.specs.Lines.{blank, house_at, near, beyond, InForm}
 use Rattle.plan.proofs.Ways.{end_below}
-use Rattle.marker.specs.declared.rounds.Step.{Step}
+use Rattle.marker.specs.declared.tables.Step.{Step}
 use Rattle.marker.specs.Distances.{any_line, Distance, Chosen}
 use Rattle.marker.specs.Rounds.{distance_is, stands, steps_from, Next, Found}
 

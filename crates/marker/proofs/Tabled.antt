@@ -1,8 +1,9 @@
 -- What the tables of the search make of a draft.
-use Rattle.std.proofs.Common.{◌≡◌, ℕ, ◌<◌, ◌≤◌, Bool, true, false, List, get_or, is_some, Some, None, Ok, Err, Decides, Option, Result, sym, refl, ap, ◌∙◌, subst, ⊎_elim, arith}
+use Rattle.std.proofs.Common.{◌≡◌, ℕ, ◌<◌, ◌≤◌, Bool, true, false, List, get_or, is_some, Some, None, Ok, Err, Decides, Option, Result, sym, refl, ap, ◌∙◌, subst, inl, inr, ⊎_elim, arith}
 use Rattle.std.proofs.lemmas.List.{get_or_past, get_or-take}
 use Rattle.std.proofs.lemmas.Bool.{cases_eq, cases_lt, eq-eqb, eqb-true, false≢true, true≢false}
 use Rattle.fault.specs.declared.causes.Cause.{Cause}
+use Rattle.fault.specs.declared.causes.Cause.TheVariants.{NoWayFromHead, NoWayToHead}
 use Rattle.fault.specs.declared.faults.Fault.{Fault}
 use Rattle.lines.specs.declared.lines.Line.{Line}
 use Rattle.lines.specs.declared.lines.Way.{Way}
@@ -12,10 +13,10 @@ use Rattle.plan.specs.declared.drafts.Draft.{Draft}
 use Rattle.plan.specs.declared.plans.Plan.{Plan}
 use Rattle.plan.specs.Judged.{Judged}
 use Rattle.plan.specs.Rules.{lines_of}
-use Rattle.marker.specs.declared.rounds.Step.{Step}
+use Rattle.marker.specs.declared.tables.Step.{Step}
 use Rattle.marker.specs.Distances.{Chosen, CutOff}
-use Rattle.marker.specs.Marked.{takes, remark_of, Complete, FirstCut, JoinedUp, MarkDraft, Remarked, RemarkedBy, SameEnds}
-use Rattle.marker.specs.Rounds.{Found}
+use Rattle.marker.specs.Marked.{takes, remark_of, BothComplete, Complete, FirstCut, JoinedUp, MarkDraft, Remarked, RemarkedBy, SameEnds, Unreached}
+use Rattle.marker.specs.Rounds.{Found, Searched}
 use Rattle.marker.proofs.Ends.{chosen_joined, head_joined, head_unchosen, one_chosen}
 use Rattle.marker.proofs.Keeping.{keeps}
 
@@ -69,10 +70,6 @@ module _ (w : Way) (d : Draft) (found : ℕ → Option Step) (is_found : (h : �
 
 -- THE MARKS BY THE TABLES
 
-abbrev pub by_way : (ℕ → Option Step) → (ℕ → Option Step) → Way → ℕ → Option Step
-by_way out home Way.Direct = out
-by_way out home Way.Back = home
-
 direct_marked : (a b : Bool) → marked Way.Direct (marks_of a b) ≡ a
 direct_marked true true = refl
 direct_marked true false = refl
@@ -85,59 +82,70 @@ back_marked true false = refl
 back_marked false true = refl
 back_marked false false = refl
 
-remark_takes : (out home : ℕ → Option Step) (w : Way) (i : ℕ) (l : Line) → marked w (remark_of out home i l).marks ≡ takes (by_way out home w (house_at (near w) l)) i
-remark_takes out home Way.Direct i l = direct_marked (takes (out l.to) i) (takes (home l.from) i)
-remark_takes out home Way.Back i l = back_marked (takes (out l.to) i) (takes (home l.from) i)
+remark_takes : (found : Way → ℕ → Option Step) (w : Way) (i : ℕ) (l : Line) → marked w (remark_of found i l).marks ≡ takes (found w (house_at (near w) l)) i
+remark_takes found Way.Direct i l = direct_marked (takes (found Way.Direct l.to) i) (takes (found Way.Back l.from) i)
+remark_takes found Way.Back i l = back_marked (takes (found Way.Direct l.to) i) (takes (found Way.Back l.from) i)
 
-module _ (d e : Draft) (out home : ℕ → Option Step) (rem : RemarkedBy d out home e) (head : (w : Way) → by_way out home w 0 ≡ None) (is_found : (w : Way) (h : ℕ) → 1 ≤ h → h < d.houses → Found w (lines_of d) h (by_way out home w h)) where
-  line_is : (i : ℕ) → i < d.lines → get_or (lines_of e) i blank ≡ remark_of out home i (get_or (lines_of d) i blank)
-  line_is i lt =
-      get_or-take e.lines e.records i blank (omega (arith, rem.1))
-      ∙ rem.3.1 i lt
-      ∙ ap (remark_of out home i) (sym (get_or-take d.lines d.records i blank lt))
+module _ (d : Draft) (found : Way → ℕ → Option Step) (is_found : (w : Way) → Searched w (lines_of d) d.houses (found w)) where
+  -- a house is cut off
+  pub unreached : (v : Fault) → BothComplete found d.houses (Err v) → Unreached d v
+  unreached v (inl cut) = inl (cut.0, first_cut Way.Direct d (found Way.Direct) (is_found Way.Direct) NoWayFromHead v cut)
+  unreached v (inr (out, cut)) =
+      inr (cut.0, joined_up Way.Direct d (found Way.Direct) (is_found Way.Direct) out, first_cut Way.Back d (found Way.Back) (is_found Way.Back) NoWayToHead v cut)
 
-  past : (i : ℕ) → d.lines ≤ i → get_or (lines_of d) i blank ≡ get_or (lines_of e) i blank
-  past i ge =
-      get_or_past (lines_of d) i blank (omega (arith, length_lines d))
-      ∙ sym (get_or_past (lines_of e) i blank (omega (arith, length_lines e, rem.1)))
+  module _ (e : Draft) (rem : RemarkedBy d found e) (head : (w : Way) → found w 0 ≡ None) where
+    line_is : (i : ℕ) → i < d.lines → get_or (lines_of e) i blank ≡ remark_of found i (get_or (lines_of d) i blank)
+    line_is i lt =
+        get_or-take e.lines e.records i blank (omega (arith, rem.1))
+        ∙ rem.3.1 i lt
+        ∙ ap (remark_of found i) (sym (get_or-take d.lines d.records i blank lt))
 
-  same_ends : SameEnds (lines_of d) (lines_of e)
-  same_ends = (
-    length_lines d ∙ sym rem.1 ∙ sym (length_lines e),
-    λ i.
-        ⊎_elim
-        (λ lt. (sym (ap (λ l. l.from) (line_is i lt)), sym (ap (λ l. l.to) (line_is i lt))))
-        (λ ge. (ap (λ l. l.from) (past i ge), ap (λ l. l.to) (past i ge)))
-        (cases_lt i d.lines),
-  )
+    past : (i : ℕ) → d.lines ≤ i → get_or (lines_of d) i blank ≡ get_or (lines_of e) i blank
+    past i ge =
+        get_or_past (lines_of d) i blank (omega (arith, length_lines d))
+        ∙ sym (get_or_past (lines_of e) i blank (omega (arith, length_lines e, rem.1)))
 
-  chosen_marked : (w : Way) (i : ℕ) → i < d.lines → Decides (marked w (get_or (lines_of e) i blank).marks) (Chosen w (lines_of d) (house_at (near w) (get_or (lines_of d) i blank)) i)
-  chosen_marked w i lt =
-      let l = get_or (lines_of d) i blank in
-      let h = house_at (near w) l in
-      let within : h < d.houses = near_below w d.houses l (form_of d i (omega (arith, length_lines d))) in
-      let marks : marked w (get_or (lines_of e) i blank).marks ≡ takes (by_way out home w h) i = ap (λ x. marked w x.marks) (line_is i lt) ∙ remark_takes out home w i l in (
-        λ on.
-            ⊎_elim
-            (λ z. absurd (false≢true (sym (ap (λ o. takes o i) (ap (by_way out home w) z ∙ head w)) ∙ sym marks ∙ on)))
-            (λ far. takes_chosen w (lines_of d) h i (by_way out home w h) (is_found w h (omega arith) within) (sym marks ∙ on))
-            (cases_eq h 0),
-        λ chosen.
-            ⊎_elim
-            (λ z. absurd (head_unchosen w (lines_of d) i (subst (λ k. Chosen w (lines_of d) k i) z chosen)))
-            (λ far. marks ∙ chosen_takes w (lines_of d) h i (by_way out home w h) (is_found w h (omega arith) within) chosen)
-            (cases_eq h 0),
-      )
+    same_ends : SameEnds (lines_of d) (lines_of e)
+    same_ends = (
+      length_lines d ∙ sym rem.1 ∙ sym (length_lines e),
+      λ i.
+          ⊎_elim
+          (λ lt. (sym (ap (λ l. l.from) (line_is i lt)), sym (ap (λ l. l.to) (line_is i lt))))
+          (λ ge. (ap (λ l. l.from) (past i ge), ap (λ l. l.to) (past i ge)))
+          (cases_lt i d.lines),
+    )
 
-  remarked : Remarked d e
-  remarked = (rem.0, rem.1, rem.2, same_ends, chosen_marked, rem.4)
+    chosen_marked : (w : Way) (i : ℕ) → i < d.lines → Decides (marked w (get_or (lines_of e) i blank).marks) (Chosen w (lines_of d) (house_at (near w) (get_or (lines_of d) i blank)) i)
+    chosen_marked w i lt =
+        let l = get_or (lines_of d) i blank in
+        let h = house_at (near w) l in
+        let within : h < d.houses = near_below w d.houses l (form_of d i (omega (arith, length_lines d))) in
+        let marks : marked w (get_or (lines_of e) i blank).marks ≡ takes (found w h) i = ap (λ x. marked w x.marks) (line_is i lt) ∙ remark_takes found w i l in (
+          λ on.
+              ⊎_elim
+              (λ z. absurd (false≢true (sym (ap (λ o. takes o i) (ap (found w) z ∙ head w)) ∙ sym marks ∙ on)))
+              (λ far. takes_chosen w (lines_of d) h i (found w h) (is_found w h (omega arith) within) (sym marks ∙ on))
+              (cases_eq h 0),
+          λ chosen.
+              ⊎_elim
+              (λ z. absurd (head_unchosen w (lines_of d) i (subst (λ k. Chosen w (lines_of d) k i) z chosen)))
+              (λ far. marks ∙ chosen_takes w (lines_of d) h i (found w h) (is_found w h (omega arith) within) chosen)
+              (cases_eq h 0),
+        )
 
-  -- the judge takes it
-  pub marked_draft : ((w : Way) (h : ℕ) → 1 ≤ h → h < d.houses → is_some (by_way out home w h) ≡ true) → (r : Result Plan Fault) → Judged e r → MarkDraft d r
-  marked_draft there (Ok p) same = (
-    joined_up Way.Direct d out (is_found Way.Direct) (there Way.Direct),
-    joined_up Way.Back d home (is_found Way.Back) (there Way.Back),
-    subst (Remarked d) (sym same) remarked,
-  )
-  marked_draft there (Err v) (q, _, (lt, broken, _), _) =
-      absurd (broken (keeps d e remarked (λ w. all_chosen w d (by_way out home w) (is_found w) (there w)) q v.place lt))
+    remarked : Remarked d e
+    remarked = (rem.0, rem.1, rem.2, same_ends, chosen_marked, rem.4)
+
+    -- the judge takes it
+    pub marked_draft : BothComplete found d.houses (Ok tt) → (r : Result Plan Fault) → Judged e r → MarkDraft d r
+    marked_draft there (Ok p) same = (
+      joined_up Way.Direct d (found Way.Direct) (is_found Way.Direct) there.0,
+      joined_up Way.Back d (found Way.Back) (is_found Way.Back) there.1,
+      subst (Remarked d) (sym same) remarked,
+    )
+    marked_draft there (Err v) (q, _, (lt, broken, _), _) =
+        absurd (broken (keeps d e remarked each q v.place lt))
+      where
+        each : (w : Way) (h : ℕ) → 1 ≤ h → h < d.houses → (i : ℕ) × Chosen w (lines_of d) h i
+        each Way.Direct = all_chosen Way.Direct d (found Way.Direct) (is_found Way.Direct) there.0
+        each Way.Back = all_chosen Way.Back d (found Way.Back) (is_found Way.Back) there.1
