@@ -1,7 +1,10 @@
 -- What the rounds of the search find: after s rounds a house has its chosen line if its distance is at most s, and
 -- otherwise all its trails are longer than s.
-use Rattle.std.proofs.Common.{◌≡◌, ℕ, zero, suc, ◌+◌, ◌-◌, ◌<◌, ◌≤◌, Bool, true, false, eqb, ◌⊎◌, List, [], ◌∷◌, length, get_or, Some, None, Option, sym, refl, ◌∙◌, subst, subst₂, inl, inr, ⊎_elim, arith}
-use Rattle.std.proofs.lemmas.Bool.{and_from, and_parts, both_ways, cases_Bool, cases_eq, cases_lt, cond-false, cond-true, eq-eqb, eqb-true, false≢true, ne_eqb}
+use Rattle.std.proofs.Common.{◌≡◌, ℕ, zero, suc, ◌+◌, ◌-◌, ◌<◌, ◌≤◌, true, eqb, ◌⊎◌, List, [], ◌∷◌, length, get_or, Some, None, Option, sym, refl, ◌∙◌, subst, inl, inr, ⊎_elim, arith}
+use Rattle.std.specs.List.{position_or_len}
+use Rattle.std.proofs.Math.Dec.{eqb-suc-zero}
+use Rattle.std.proofs.lemmas.List.Sums.{fails_before_first, passes_at_first}
+use Rattle.std.proofs.lemmas.Bool.{and_from, and_parts, both_ways, cases_eq, cases_lt, eq-eqb, eqb-true, false≢true}
 use Rattle.lines.proofs.Depths.{shallow}
 use Rattle.lines.proofs.Trails.{Trail, turned, turned_length, trail_route, route_trail}
 use Rattle.lines.specs.declared.lines.Line.{Line}
@@ -17,19 +20,6 @@ use Rattle.marker.specs.Rounds.{distance_is, stands, steps_from, Next, Found}
 abbrev pub Away : Way → List Line → ℕ → ℕ → Type 0
 Away w xs h d =
     ((is : List ℕ) × (length is ≡ d) × Trail w any_line xs h is) × ((js : List ℕ) → Trail w any_line xs h js → d ≤ length js)
-
--- the lowest-numbered line that passes a test, or that there is none
-pick : (p : Line → Bool) (xs : List Line) → ((i : ℕ) × (i < length xs) × (p (get_or xs i blank) ≡ true) × ((j : ℕ) → j < i → p (get_or xs j blank) ≡ true → ⊥)) ⊎ ((j : ℕ) → j < length xs → p (get_or xs j blank) ≡ true → ⊥)
-pick p [] = inr (λ j h _. omega arith)
-pick p (x ∷ xs) = ⊎_elim (λ e. inl (0, omega arith, e, λ j h _. omega arith)) (λ e. next e (pick p xs)) (cases_Bool (p x))
-  where
-    before : p x ≡ false → (k : ℕ) → ((j : ℕ) → j < k → p (get_or xs j blank) ≡ true → ⊥) → (j : ℕ) → j < suc k → p (get_or (x ∷ xs) j blank) ≡ true → ⊥
-    before e k none zero h t = both_ways (p x) e t
-    before e k none (suc j) h t = none j (omega arith) t
-
-    next : p x ≡ false → ((i : ℕ) × (i < length xs) × (p (get_or xs i blank) ≡ true) × ((j : ℕ) → j < i → p (get_or xs j blank) ≡ true → ⊥)) ⊎ ((j : ℕ) → j < length xs → p (get_or xs j blank) ≡ true → ⊥) → ((i : ℕ) × (i < suc (length xs)) × (p (get_or (x ∷ xs) i blank) ≡ true) × ((j : ℕ) → j < i → p (get_or (x ∷ xs) j blank) ≡ true → ⊥)) ⊎ ((j : ℕ) → j < suc (length xs) → p (get_or (x ∷ xs) j blank) ≡ true → ⊥)
-    next e (inl (i, lt, t, low)) = inl (suc i, omega arith, t, before e i low)
-    next e (inr none) = inr (before e (length xs) none)
 
 pub away_zero : (w : Way) (xs : List Line) (h : ℕ) → Away w xs h 0 → h ≡ 0
 away_zero w xs h (([], long, t), least) = t
@@ -83,22 +73,12 @@ module _ (w : Way) (xs : List Line) where
 
     module _ (s : ℕ) (found : ℕ → Option Step) (ok : (g : ℕ) → 1 ≤ g → g < n → Entry s g (found g)) where
       stands_away : (g : ℕ) → g < n → stands found s g ≡ true → Away w xs g s
-      stands_away g lt there =
-          ⊎_elim
-          (λ e.
-          let none : s ≡ 0 = eqb-true s 0 (sym (cond-true (eqb g 0) (eqb s 0) (distance_is (found g) s) (eq-eqb g 0 e)) ∙ there) in
-          subst₂ (Away w xs) (sym e) (sym none) head_away)
-          (λ far. entry_at s g (found g) (ok g (omega arith) lt) (sym (cond-false (eqb g 0) (eqb s 0) (distance_is (found g) s) (ne_eqb g 0 far)) ∙ there))
-          (cases_eq g 0)
+      stands_away zero lt there = subst (Away w xs 0) (sym (eqb-true s 0 there)) head_away
+      stands_away (suc g) lt there = entry_at s (suc g) (found (suc g)) (ok (suc g) (omega arith) lt) (rw eqb-suc-zero at there)
 
       away_stands : (g : ℕ) → g < n → Away w xs g s → stands found s g ≡ true
-      away_stands g lt at =
-          ⊎_elim
-          (λ e.
-          let none : s ≡ 0 = one_distance 0 s 0 (subst (λ k. Away w xs k s) e at) head_away in
-          cond-true (eqb g 0) (eqb s 0) (distance_is (found g) s) (eq-eqb g 0 e) ∙ eq-eqb s 0 none)
-          (λ far. cond-false (eqb g 0) (eqb s 0) (distance_is (found g) s) (ne_eqb g 0 far) ∙ entry_is s g (found g) (ok g (omega arith) lt) at)
-          (cases_eq g 0)
+      away_stands zero lt at = eq-eqb s 0 (one_distance 0 s 0 at head_away)
+      away_stands (suc g) lt at = rw eqb-suc-zero (entry_is s (suc g) (found (suc g)) (ok (suc g) (omega arith) lt) at)
 
       within : (g : ℕ) → g < n → (is : List ℕ) → Trail w any_line xs g is → length is ≤ s → (e : ℕ) × (e ≤ s) × Away w xs g e
       within g lt is t short =
@@ -151,10 +131,11 @@ module _ (w : Way) (xs : List Line) where
       follow : (h : ℕ) (f : Option Step) → (o : Option Step) × Next w xs found s h f o
       follow h (Some step) = (Some step, refl)
       follow h None =
+          let p = steps_from w found s h in
           ⊎_elim
-          (λ first. (Some (record { distance = s + 1; line = first.0 }), (refl, first.1, first.2, first.3)))
-          (λ none. (None, none))
-          (pick (steps_from w found s h) xs)
+          (λ lt. (Some (record { distance = s + 1; line = position_or_len p xs }), (refl, lt, passes_at_first p xs blank lt, λ j below. both_ways _ (fails_before_first p xs j blank below))))
+          (λ ge. (None, λ j lt. both_ways _ (fails_before_first p xs j blank (omega arith))))
+          (cases_lt (position_or_len p xs) (length xs))
 
     entries : (s : ℕ) → (found : ℕ → Option Step) × ((g : ℕ) → 1 ≤ g → g < n → Entry s g (found g))
     entries zero = ((λ _. None), λ g far lt. entry_start g far)

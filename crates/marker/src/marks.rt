@@ -11,7 +11,7 @@ impl Table {
     fn takes(&self, house: u8, line: usize) -> bool
         ensures { result ≡ takes (entry_in self.now house) line }
     {
-        self.entry(house as usize)
+        self.entry(usize::from(house))
             .is_some_and(|step| step.line == line)
     }
 }

@@ -38,8 +38,8 @@ impl Table {
                 continue;
             }
             for (number, line) in draft.list().iter().enumerate() {
-                let near = line.at(way.near()) as usize;
-                let beyond = line.at(way.beyond()) as usize;
+                let near = usize::from(line.at(way.near()));
+                let beyond = usize::from(line.at(way.beyond()));
                 if near == house && old.stands(beyond, distance) {
                     self.steps[house] = Some(Step {
                         distance: distance + 1,

@@ -1,16 +1,15 @@
 use Rattle.std.proofs.Common.{◌≡◌, ℕ, ◌<◌, ◌≤◌, true, get_or}
 use Rattle.lines.specs.Lines.{blank}
 use Rattle.plan.specs.Rules.{lines_of}
-use Rattle.marker.specs.Rounds.{entry_in, steps_from, Next}
+use Rattle.marker.specs.Rounds.{entry_in, steps_from, Round}
 use Rattle.marker.proofs.tables.Table.round.Given as goal
 
 abbrev pub invariant-houses : goal.invariant-houses
 invariant-houses l =
-    ((h : ℕ) → 1 ≤ h → h < l.house → Next l.way (lines_of l.draft) (entry_in l.old) l.distance h (entry_in l.old h) (entry_in l.self h))
-    × ((h : ℕ) → l.house ≤ h → entry_in l.self h ≡ entry_in l.old h)
+    Round l.way (lines_of l.draft) l.house l.distance l.old l.self × ((h : ℕ) → l.house ≤ h → entry_in l.self h ≡ entry_in l.old h)
 
 abbrev pub invariant-loop-number : goal.invariant-loop-number
 invariant-loop-number l =
-    ((h : ℕ) → 1 ≤ h → h < l.house → Next l.way (lines_of l.draft) (entry_in l.old) l.distance h (entry_in l.old h) (entry_in l.self h))
+    Round l.way (lines_of l.draft) l.house l.distance l.old l.self
     × ((h : ℕ) → l.house ≤ h → entry_in l.self h ≡ entry_in l.old h)
     × ((j : ℕ) → j < l.number → steps_from l.way (entry_in l.old) l.distance l.house (get_or (lines_of l.draft) j blank) ≡ true → ⊥)
