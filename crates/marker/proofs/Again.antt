@@ -26,10 +26,7 @@ use Rattle.marker.proofs.Ends.{chosen_same, end_same, ends_back}
 -- MARKING AGAIN
 
 marks_back : (x : Marks) → marks_of (marked Way.Direct x) (marked Way.Back x) ≡ x
-marks_back Marks.Neither = refl
-marks_back Marks.Direct = refl
-marks_back Marks.Back = refl
-marks_back Marks.Both = refl
+marks_back x = grind arith
 
 module _ (d e g : Draft) (once : Remarked d e) (twice : Remarked e g) where
   mark_same : (w : Way) (i : ℕ) → i < e.lines → marked w (get_or (lines_of g) i blank).marks ≡ marked w (get_or (lines_of e) i blank).marks

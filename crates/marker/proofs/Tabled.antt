@@ -21,8 +21,7 @@ use Rattle.marker.proofs.Ends.{chosen_joined, head_joined, head_unchosen, one_ch
 use Rattle.marker.proofs.Keeping.{keeps}
 
 near_below : (w : Way) (n : ℕ) (l : Line) → InForm n l → house_at (near w) l < n
-near_below Way.Direct n l form = form.1
-near_below Way.Back n l form = form.0
+near_below w n l form = grind arith
 
 -- AN ENTRY OF A TABLE
 
@@ -45,7 +44,7 @@ module _ (w : Way) (xs : List Line) (h : ℕ) where
 
 -- A WHOLE TABLE
 
-module _ (w : Way) (d : Draft) (found : ℕ → Option Step) (is_found : (h : ℕ) → 1 ≤ h → h < d.houses → Found w (lines_of d) h (found h)) where
+module _ (w : Way) (d : Draft) (found : ℕ → Option Step) (is_found : Searched w (lines_of d) d.houses found) where
   pub all_chosen : ((h : ℕ) → 1 ≤ h → h < d.houses → is_some (found h) ≡ true) → (h : ℕ) → 1 ≤ h → h < d.houses → (i : ℕ) × Chosen w (lines_of d) h i
   all_chosen there h far lt = found_chosen w (lines_of d) h (found h) (is_found h far lt) (there h far lt)
 
@@ -70,21 +69,8 @@ module _ (w : Way) (d : Draft) (found : ℕ → Option Step) (is_found : (h : �
 
 -- THE MARKS BY THE TABLES
 
-direct_marked : (a b : Bool) → marked Way.Direct (marks_of a b) ≡ a
-direct_marked true true = refl
-direct_marked true false = refl
-direct_marked false true = refl
-direct_marked false false = refl
-
-back_marked : (a b : Bool) → marked Way.Back (marks_of a b) ≡ b
-back_marked true true = refl
-back_marked true false = refl
-back_marked false true = refl
-back_marked false false = refl
-
 remark_takes : (found : Way → ℕ → Option Step) (w : Way) (i : ℕ) (l : Line) → marked w (remark_of found i l).marks ≡ takes (found w (house_at (near w) l)) i
-remark_takes found Way.Direct i l = direct_marked (takes (found Way.Direct l.to) i) (takes (found Way.Back l.from) i)
-remark_takes found Way.Back i l = back_marked (takes (found Way.Direct l.to) i) (takes (found Way.Back l.from) i)
+remark_takes found w i l = grind arith
 
 module _ (d : Draft) (found : Way → ℕ → Option Step) (is_found : (w : Way) → Searched w (lines_of d) d.houses (found w)) where
   -- a house is cut off
