@@ -25,6 +25,11 @@ pub away_zero : (w : Way) (xs : List Line) (h : ℕ) → Away w xs h 0 → h ≡
 away_zero w xs h (([], long, t), least) = t
 away_zero w xs h ((i ∷ is, long, t), least) = absurd (omega arith)
 
+-- the distance of an entry, or 0 where there is none
+abbrev depth_of : Option Step → ℕ
+depth_of (Some step) = step.distance
+depth_of None = 0
+
 module _ (w : Way) (xs : List Line) where
   pub away_distance : (h d : ℕ) → Away w xs h d → Distance w xs h d
   away_distance h d ((is, long, t), least) = (
@@ -63,6 +68,14 @@ module _ (w : Way) (xs : List Line) where
   entry_within s g (Some step) (le, away, _) is t short = (step.distance, le, away)
   entry_within s g None none is t short = absurd (omega (arith, none is t))
 
+  depth_away : (s g e : ℕ) (o : Option Step) → Entry s g o → e ≤ s → Away w xs g e → depth_of o ≡ e
+  depth_away s g e (Some step) (le, away, _) below at = one_distance g step.distance e away at
+  depth_away s g e None none below at = absurd (omega (arith, none at.0.0 at.0.2, at.0.1))
+
+  away_depth : (s g k : ℕ) (o : Option Step) → Entry s g o → depth_of o ≡ suc k → (suc k ≤ s) × Away w xs g (suc k)
+  away_depth s g k (Some step) (le, away, _) e = (omega arith, subst (Away w xs g) e away)
+  away_depth s g k None none e = absurd (omega arith)
+
   pub entry_start : (h : ℕ) → 1 ≤ h → Entry 0 h None
   entry_start h far [] e = absurd (omega arith)
   entry_start h far (i ∷ is) t = omega arith
@@ -81,11 +94,8 @@ module _ (w : Way) (xs : List Line) where
       away_stands (suc g) lt at = rw eqb-suc-zero (entry_is s (suc g) (found (suc g)) (ok (suc g) (omega arith) lt) at)
 
       within : (g : ℕ) → g < n → (is : List ℕ) → Trail w any_line xs g is → length is ≤ s → (e : ℕ) × (e ≤ s) × Away w xs g e
-      within g lt is t short =
-          ⊎_elim
-          (λ e. (0, omega arith, subst (λ k. Away w xs k 0) (sym e) head_away))
-          (λ far. entry_within s g (found g) (ok g (omega arith) lt) is t short)
-          (cases_eq g 0)
+      within zero lt is t short = (0, omega arith, head_away)
+      within (suc g) lt is t short = entry_within s (suc g) (found (suc g)) (ok (suc g) (omega arith) lt) is t short
 
       stepping : (h i : ℕ) → i < length xs → house_at (near w) (get_or xs i blank) ≡ h → Away w xs (house_at (beyond w) (get_or xs i blank)) s → steps_from w found s h (get_or xs i blank) ≡ true
       stepping h i lt at away =
@@ -147,17 +157,6 @@ module _ (w : Way) (xs : List Line) where
 
     -- EVERY DISTANCE IS BELOW n
 
-    known : (s g : ℕ) → g < n → ((e : ℕ) × (e ≤ s) × Away w xs g e) ⊎ ((is : List ℕ) → Trail w any_line xs g is → s < length is)
-    known s g lt =
-        ⊎_elim
-        (λ e. inl (0, omega arith, subst (λ k. Away w xs k 0) (sym e) head_away))
-        (λ far. told ((entries s).0 g) ((entries s).1 g (omega arith) lt))
-        (cases_eq g 0)
-      where
-        told : (o : Option Step) → Entry s g o → ((e : ℕ) × (e ≤ s) × Away w xs g e) ⊎ ((is : List ℕ) → Trail w any_line xs g is → s < length is)
-        told (Some step) (le, away, _) = inl (step.distance, le, away)
-        told None none = inr none
-
     away_down : (h k : ℕ) → Away w xs h (suc k) → (g : ℕ) × (g < n) × Away w xs g k
     away_down h k (([], long, t), least) = absurd (omega arith)
     away_down h k ((i ∷ is, long, (lt, ok, at, t)), least) = (
@@ -167,45 +166,30 @@ module _ (w : Way) (xs : List Line) where
     )
 
     module _ (s : ℕ) where
-      depth_at : (g : ℕ) → (g < n) ⊎ (n ≤ g) → ℕ
-      depth_at g (inl lt) = elim (known s g lt) [ inl k ↦ k.0 | inr _ ↦ 0 ]
-      depth_at g (inr _) = 0
-
-      depth : ℕ → ℕ
-      depth g = depth_at g (cases_lt g n)
+      -- a house's distance, or 0 where it is not reached
+      abbrev depth : ℕ → ℕ
+      depth zero = 0
+      depth (suc g) = depth_of ((entries s).0 (suc g))
 
       depth_is : (g e : ℕ) → g < n → e ≤ s → Away w xs g e → depth g ≡ e
-      unfolding depth depth_at
-      depth_is g e lt le away = at (cases_lt g n)
-        where
-          at : (c : (g < n) ⊎ (n ≤ g)) → depth_at g c ≡ e
-          at (inl l) =
-              elim (known s g l) as (λ k. elim k [ inl j ↦ j.0 | inr _ ↦ 0 ] ≡ e)
-              [ inl k ↦ one_distance g k.0 e k.2 away | inr none ↦ absurd (omega (arith, none away.0.0 away.0.2, away.0.1)) ]
-          at (inr ge) = absurd (omega arith)
+      depth_is zero e lt le away = one_distance 0 0 e head_away away
+      depth_is (suc g) e lt le away = depth_away s (suc g) e ((entries s).0 (suc g)) ((entries s).1 (suc g) (omega arith) lt) le away
 
-      deep : (h k : ℕ) → depth h ≡ suc k → (suc k ≤ s) × Away w xs h (suc k)
-      unfolding depth depth_at
-      deep h k e = at (cases_lt h n) e
-        where
-          at : (c : (h < n) ⊎ (n ≤ h)) → depth_at h c ≡ suc k → (suc k ≤ s) × Away w xs h (suc k)
-          at (inl l) =
-              elim (known s h l) as (λ j. elim j [ inl q ↦ q.0 | inr _ ↦ 0 ] ≡ suc k → (suc k ≤ s) × Away w xs h (suc k))
-              [ inl j ↦ (λ same. (omega (arith, j.1, same), subst (Away w xs h) same j.2)) | inr _ ↦ (λ same. absurd (omega arith)) ]
-          at (inr ge) = λ same. absurd (omega arith)
+      deep : (h k : ℕ) → h < n → depth h ≡ suc k → (suc k ≤ s) × Away w xs h (suc k)
+      deep zero k lt e = absurd (omega arith)
+      deep (suc h) k lt e = away_depth s (suc h) k ((entries s).0 (suc h)) ((entries s).1 (suc h) (omega arith) lt) e
 
       down : (h : ℕ) → h < n → (k : ℕ) → depth h ≡ suc k → (g : ℕ) × (g < n) × (depth g ≡ k)
       down h lt k e =
-          let d = deep h k e in
+          let d = deep h k lt e in
           let next = away_down h k d.1 in
           (next.0, next.1, depth_is next.0 k next.1 (omega (arith, d.0)) next.2)
 
     pub near_by : (h : ℕ) → h < n → (is : List ℕ) → Trail w any_line xs h is → (e : ℕ) × (e < n) × Away w xs h e
     near_by h lt is t =
-        ⊎_elim
-        (λ k. (k.0, subst (λ m. m < n) (depth_is (length is) h k.0 lt k.1 k.2) (shallow n (depth (length is)) (down (length is)) h lt), k.2))
-        (λ none. absurd (omega (arith, none is t)))
-        (known (length is) h lt)
+        let s = length is in
+        let k = within s (entries s).0 (entries s).1 h lt is t (omega arith) in
+        (k.0, subst (λ m. m < n) (depth_is s h k.0 lt k.1 k.2) (shallow n (depth s) (down s) h lt), k.2)
 
     -- after n - 1 rounds the search is over
     pub entry_found : (h : ℕ) → h < n → (o : Option Step) → Entry (n - 1) h o → Found w xs h o

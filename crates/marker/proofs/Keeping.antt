@@ -1,5 +1,6 @@
 -- A draft that is marked by its chosen lines keeps the five rules.
-use Rattle.std.proofs.Common.{◌≡◌, ℕ, zero, suc, ◌-◌, ◌<◌, ◌≤◌, true, eqb, List, length, get_or, count_by, sym, ◌∙◌, subst, inl, inr, ⊎_elim, arith}
+use Rattle.std.proofs.Common.{◌≡◌, ℕ, zero, suc, ◌-◌, ◌<◌, ◌≤◌, true, eqb, List, length, get_or, count_by, sym, refl, ◌∙◌, subst, inl, inr, ⊎_elim, arith}
+use Rattle.std.proofs.Math.Dec.{eqb-suc-zero}
 use Rattle.std.proofs.lemmas.Bool.{and_from, and_parts, cases_eq, cond-false, eq-eqb, eqb-true, ne_eqb}
 use Rattle.lines.specs.declared.lines.Line.{Line}
 use Rattle.lines.specs.declared.lines.Way.{Way}
@@ -48,46 +49,37 @@ module _ (d e : Draft) (rem : Remarked d e) (w : Way) (chosen : (h : ℕ) → 1 
   within h i c = omega (arith, c.0.0, lines_same, length_lines d)
 
   single : Kept (Rule.Single w) e
-  single h lt =
-      ⊎_elim
-      (λ z. subst (λ k. count_by (serves w k) (lines_of e) ≡ due k) (sym z) (none_counted (serves w 0) blank (lines_of e) (λ i l s. head_unchosen w (lines_of d) i (serves_chosen 0 i l s))))
-      (λ far.
-      let c = chosen h (omega arith) (omega (arith, rem.0)) in
-      let some = counted (serves w h) blank (lines_of e) c.0 (within h c.0 c.1) (chosen_serves h c.0 c.1) in
-      let few = one_counted (serves w h) blank (lines_of e) (λ i j li lj si sj. one_chosen w (lines_of d) h i j (serves_chosen h i li si) (serves_chosen h j lj sj)) in
-      let one : due h ≡ 1 = cond-false (eqb h 0) 0 1 (ne_eqb h 0 far) in
-      omega (arith, some, few, one))
-      (cases_eq h 0)
+  single zero lt = none_counted (serves w 0) blank (lines_of e) (λ i l s. head_unchosen w (lines_of d) i (serves_chosen 0 i l s))
+  single (suc h) lt =
+      let c = chosen (suc h) (omega arith) (omega (arith, rem.0)) in
+      let some = counted (serves w (suc h)) blank (lines_of e) c.0 (within (suc h) c.0 c.1) (chosen_serves (suc h) c.0 c.1) in
+      let few = one_counted (serves w (suc h)) blank (lines_of e) (λ i j li lj si sj. one_chosen w (lines_of d) (suc h) i j (serves_chosen (suc h) i li si) (serves_chosen (suc h) j lj sj)) in
+      let one : due (suc h) ≡ 1 = cond-false (eqb (suc h) 0) 0 1 (eqb-suc-zero h) in
+      omega (arith, some, few, one)
 
   lead : (k h : ℕ) → h < d.houses → Distance w (lines_of d) h k → Leads w (lines_of e) k h
   lead zero h lt dist = away_zero w (lines_of d) h (distance_away w (lines_of d) h 0 dist)
-  lead (suc k) h lt dist =
-      ⊎_elim
-      (λ z. inl z)
-      (λ far.
-      let c = chosen h (omega arith) lt in
+  lead (suc k) zero lt dist = inl refl
+  lead (suc k) (suc h) lt dist =
+      let c = chosen (suc h) (omega arith) lt in
       let g = house_at (beyond w) (get_or (lines_of d) c.0 blank) in
       let away = c.1.0.2 in
-      let same : suc away.0 ≡ suc k = one_distance w (lines_of d) h (suc away.0) (suc k) (distance_away w (lines_of d) h (suc away.0) away.2) (distance_away w (lines_of d) h (suc k) dist) in
+      let same : suc away.0 ≡ suc k = one_distance w (lines_of d) (suc h) (suc away.0) (suc k) (distance_away w (lines_of d) (suc h) (suc away.0) away.2) (distance_away w (lines_of d) (suc h) (suc k) dist) in
       let k_is : away.0 ≡ k = omega (arith, same) in
       let on = lead k g (end_below w d.houses _ (form_of d c.0 c.1.0.0)) (subst (Distance w (lines_of d) g) k_is away.1) in
-      inr (c.0, within h c.0 c.1, chosen_serves h c.0 c.1, subst (Leads w (lines_of e) k) (end_same (lines_of d) (lines_of e) rem.3 (beyond w) c.0) on))
-      (cases_eq h 0)
+      inr (c.0, within (suc h) c.0 c.1, chosen_serves (suc h) c.0 c.1, subst (Leads w (lines_of e) k) (end_same (lines_of d) (lines_of e) rem.3 (beyond w) c.0) on)
 
   leading : Kept (Rule.Leading w) e
-  leading h lt =
-      ⊎_elim
-      (λ z. leads_more w (lines_of e) 0 (e.houses - 1) h (omega arith) z)
-      (λ far.
-      let here : h < d.houses = omega (arith, rem.0) in
-      let c = chosen h (omega arith) here in
+  leading zero lt = leads_more w (lines_of e) 0 (e.houses - 1) 0 (omega arith) refl
+  leading (suc h) lt =
+      let here : suc h < d.houses = omega (arith, rem.0) in
+      let c = chosen (suc h) (omega arith) here in
       let dist = c.1.0.2.2 in
       let k = suc c.1.0.2.0 in
-      let away = distance_away w (lines_of d) h k dist in
-      let near-e = near_by w (lines_of d) d.houses (form_of d) h here away.0.0 away.0.2 in
-      let k_is : near-e.0 ≡ k = one_distance w (lines_of d) h near-e.0 k near-e.2 away in
-      leads_more w (lines_of e) k (e.houses - 1) h (omega (arith, near-e.1, k_is, rem.0)) (lead k h here dist))
-      (cases_eq h 0)
+      let away = distance_away w (lines_of d) (suc h) k dist in
+      let near-e = near_by w (lines_of d) d.houses (form_of d) (suc h) here away.0.0 away.0.2 in
+      let k_is : near-e.0 ≡ k = one_distance w (lines_of d) (suc h) near-e.0 k near-e.2 away in
+      leads_more w (lines_of e) k (e.houses - 1) (suc h) (omega (arith, near-e.1, k_is, rem.0)) (lead k (suc h) here dist)
 
 pub keeps : (d e : Draft) → Remarked d e → ((w : Way) (h : ℕ) → 1 ≤ h → h < d.houses → (i : ℕ) × Chosen w (lines_of d) h i) → (q : Rule) → Kept q e
 keeps d e rem chosen (Rule.Single w) = single d e rem w (chosen w)

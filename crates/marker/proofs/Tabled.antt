@@ -1,5 +1,5 @@
 -- What the tables of the search make of a draft.
-use Rattle.std.proofs.Common.{◌≡◌, ℕ, ◌<◌, ◌≤◌, Bool, true, false, List, get_or, is_some, Some, None, Ok, Err, Decides, Option, Result, sym, refl, ap, ◌∙◌, subst, inl, inr, ⊎_elim, arith}
+use Rattle.std.proofs.Common.{◌≡◌, ℕ, zero, suc, ◌<◌, ◌≤◌, Bool, true, false, List, get_or, is_some, Some, None, Ok, Err, Decides, Option, Result, sym, refl, ap, ◌∙◌, subst, inl, inr, ⊎_elim, arith}
 use Rattle.std.proofs.lemmas.List.{get_or_past, get_or-take}
 use Rattle.std.proofs.lemmas.Bool.{cases_eq, cases_lt, eq-eqb, eqb-true, false≢true, true≢false}
 use Rattle.fault.specs.declared.causes.Cause.{Cause}
@@ -49,13 +49,10 @@ module _ (w : Way) (d : Draft) (found : ℕ → Option Step) (is_found : Searche
   all_chosen there h far lt = found_chosen w (lines_of d) h (found h) (is_found h far lt) (there h far lt)
 
   joined_at : (h : ℕ) → h < d.houses → (1 ≤ h → is_some (found h) ≡ true) → CutOff w (lines_of d) h → ⊥
-  joined_at h lt there cut =
-      ⊎_elim
-      (λ z. head_joined w (lines_of d) (subst (CutOff w (lines_of d)) z cut))
-      (λ far.
-      let c = found_chosen w (lines_of d) h (found h) (is_found h (omega arith) lt) (there (omega arith)) in
-      chosen_joined w (lines_of d) h c.0 c.1 cut)
-      (cases_eq h 0)
+  joined_at zero lt there cut = head_joined w (lines_of d) cut
+  joined_at (suc h) lt there cut =
+      let c = found_chosen w (lines_of d) (suc h) (found (suc h)) (is_found (suc h) (omega arith) lt) (there (omega arith)) in
+      chosen_joined w (lines_of d) (suc h) c.0 c.1 cut
 
   pub joined_up : ((h : ℕ) → 1 ≤ h → h < d.houses → is_some (found h) ≡ true) → JoinedUp w d
   joined_up there h lt = joined_at h lt (λ far. there h far lt)
