@@ -1,10 +1,10 @@
 -- What the rounds of the search find: after s rounds a house has its chosen line if its distance is at most s, and
 -- otherwise all its trails are longer than s.
-use Rattle.std.proofs.Common.{◌≡◌, ℕ, zero, suc, ◌+◌, ◌-◌, ◌<◌, ◌≤◌, true, eqb, ◌⊎◌, List, [], ◌∷◌, length, get_or, Some, None, Option, sym, refl, ◌∙◌, subst, inl, inr, ⊎_elim, arith}
+use Rattle.std.proofs.Common.{◌≡◌, ℕ, zero, suc, ◌+◌, ◌-◌, ◌<◌, ◌≤◌, true, eqb, List, [], ◌∷◌, length, get_or, Some, None, Option, sym, refl, ◌∙◌, subst, ⊎_elim, arith}
 use Rattle.std.specs.List.{position_or_len}
 use Rattle.std.proofs.Math.Dec.{eqb-suc-zero}
 use Rattle.std.proofs.lemmas.List.Sums.{fails_before_first, passes_at_first}
-use Rattle.std.proofs.lemmas.Bool.{and_from, and_parts, both_ways, cases_eq, cases_lt, eq-eqb, eqb-true, false≢true}
+use Rattle.std.proofs.lemmas.Bool.{and_from, and_parts, both_ways, cases_lt, eq-eqb, eqb-true, false≢true}
 use Rattle.lines.proofs.Depths.{shallow}
 use Rattle.lines.proofs.Trails.{Trail, turned, turned_length, trail_route, route_trail}
 use Rattle.lines.specs.declared.lines.Line.{Line}
@@ -46,7 +46,7 @@ module _ (w : Way) (xs : List Line) where
   pub one_distance : (h a b : ℕ) → Away w xs h a → Away w xs h b → a ≡ b
   one_distance h a b ((is, ia, ti), leasta) ((js, jb, tj), leastb) = omega (arith, leasta js tj, leastb is ti)
 
-  head_away : Away w xs 0 0
+  pub head_away : Away w xs 0 0
   head_away = (([], refl, refl), λ js t. omega arith)
 
   -- ENTRIES

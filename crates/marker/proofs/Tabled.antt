@@ -1,5 +1,5 @@
 -- What the tables of the search make of a draft.
-use Rattle.std.proofs.Common.{◌≡◌, ℕ, zero, suc, ◌<◌, ◌≤◌, Bool, true, false, List, get_or, is_some, Some, None, Ok, Err, Decides, Option, Result, sym, refl, ap, ◌∙◌, subst, inl, inr, ⊎_elim, arith}
+use Rattle.std.proofs.Common.{◌≡◌, ℕ, zero, suc, ◌<◌, ◌≤◌, true, false, List, get_or, is_some, Some, None, Ok, Err, Decides, Option, Result, sym, ap, ◌∙◌, subst, inl, inr, ⊎_elim, arith}
 use Rattle.std.proofs.lemmas.List.{get_or_past, get_or-take}
 use Rattle.std.proofs.lemmas.Bool.{cases_eq, cases_lt, eq-eqb, eqb-true, false≢true, true≢false}
 use Rattle.fault.specs.declared.causes.Cause.{Cause}
@@ -7,7 +7,7 @@ use Rattle.fault.specs.declared.causes.Cause.TheVariants.{NoWayFromHead, NoWayTo
 use Rattle.fault.specs.declared.faults.Fault.{Fault}
 use Rattle.lines.specs.declared.lines.Line.{Line}
 use Rattle.lines.specs.declared.lines.Way.{Way}
-use Rattle.lines.specs.Lines.{blank, house_at, near, marked, marks_of, InForm}
+use Rattle.lines.specs.Lines.{blank, house_at, near, marked, InForm}
 use Rattle.plan.proofs.Forms.{form_of, length_lines}
 use Rattle.plan.specs.declared.drafts.Draft.{Draft}
 use Rattle.plan.specs.declared.plans.Plan.{Plan}

@@ -1,11 +1,9 @@
 ghost use Rattle.std.specs.Prelude.{is_err};
-ghost use Rattle.plan.specs.Rules.{lines_of};
 ghost use Rattle.marker.specs.Marked.{entry_on, BothComplete, Complete, MarkAnswer, MarkDraft, MarkPlan, MarksAgain, MarksPlanAgain, RefusesCutOff};
-ghost use Rattle.marker.specs.Rounds.{entry_in, Searched};
+ghost use Rattle.marker.specs.Rounds.{entry_in};
 
 use crate::tables::{Table, Tables};
 use fault::{Cause, Fault};
-use lines::Way;
 use plan::{Draft, Plan};
 
 impl Table {
@@ -21,16 +19,6 @@ impl Table {
 }
 
 impl Tables {
-    // How the row's houses are reached, on each way.
-    fn of(draft: &Draft) -> Tables
-        ensures { (w : _) → Searched w (lines_of draft.now) draft.now.houses (entry_on result w) }
-    {
-        Tables {
-            direct: Table::search(draft, Way::Direct),
-            back: Table::search(draft, Way::Back),
-        }
-    }
-
     // Refuses the lowest house to which there is no way from the head, and then the lowest from which there is none to it.
     fn check(&self, houses: usize) -> Result<(), Fault>
         ensures { BothComplete (entry_on self.now) houses result }
@@ -44,7 +32,7 @@ impl Tables {
 fn plan_of(draft: &Draft) -> Result<Plan, Fault>
     ensures { MarkDraft draft.now result }
 {
-    let tables = Tables::of(draft);
+    let tables = Tables::search(draft);
     tables.check(draft.houses)?;
     tables.remarked(draft).judge()
 }

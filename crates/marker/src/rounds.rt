@@ -1,19 +1,13 @@
 ghost use Rattle.std.specs.Prelude.{◌≡◌, ◌<◌};
 ghost use Rattle.plan.specs.Rules.{lines_of};
+ghost use Rattle.marker.specs.Marked.{entry_on};
 ghost use Rattle.marker.specs.Rounds.{entry_in, stands, Round, Searched};
 
-use crate::tables::{Step, Table};
+use crate::tables::{Step, Table, Tables};
 use lines::Way;
 use plan::Draft;
 
 impl Table {
-    // How the house is reached, where it is.
-    pub(crate) fn entry(&self, house: usize) -> Option<Step>
-        ensures { result ≡ entry_in self.now house }
-    {
-        *self.steps.get(house)?
-    }
-
     // Whether the house was reached at that distance: the head at 0.
     fn stands(&self, house: usize, distance: usize) -> bool
         ensures { result ≡ stands (entry_in self.now) distance house }
@@ -52,7 +46,7 @@ impl Table {
     }
 
     // The line towards the head of each house, by rounds: a house is reached in the round of its distance.
-    pub(crate) fn search(draft: &Draft, way: Way) -> Table
+    fn search(draft: &Draft, way: Way) -> Table
         ensures { Searched way (lines_of draft.now) draft.now.houses (entry_in result) }
     {
         let mut table = Table { steps: [None; 48] };
@@ -60,5 +54,17 @@ impl Table {
             table.round(draft, way, distance);
         }
         table
+    }
+}
+
+impl Tables {
+    // The search on both ways.
+    pub(crate) fn search(draft: &Draft) -> Tables
+        ensures { (w : _) → Searched w (lines_of draft.now) draft.now.houses (entry_on result w) }
+    {
+        Tables {
+            direct: Table::search(draft, Way::Direct),
+            back: Table::search(draft, Way::Back),
+        }
     }
 }

@@ -21,3 +21,14 @@ pub struct Tables {
     pub direct: Table,
     pub back: Table,
 }
+
+impl Table {
+    ghost use Rattle.marker.specs.Rounds.{entry_in};
+
+    // How the house is reached, where it is.
+    pub(crate) fn entry(&self, house: usize) -> Option<Step>
+        ensures { result ≡ entry_in self.now house }
+    {
+        *self.steps.get(house)?
+    }
+}
