@@ -14,8 +14,9 @@ use Rattle.plan.specs.declared.plans.Plan.{Plan}
 use Rattle.plan.specs.Judged.{Judged}
 use Rattle.plan.specs.Rules.{lines_of}
 use Rattle.marker.specs.declared.tables.Step.{Step}
+use Rattle.marker.specs.declared.tables.Tables.{Tables}
 use Rattle.marker.specs.Distances.{Chosen, CutOff}
-use Rattle.marker.specs.Marked.{takes, remark_of, BothComplete, Complete, FirstCut, JoinedUp, MarkDraft, Remarked, RemarkedBy, SameEnds, Unreached}
+use Rattle.marker.specs.Marked.{entry_on, takes, remark_of, BothComplete, Complete, FirstCut, JoinedUp, MarkDraft, Remarked, RemarkedBy, SameEnds, Unreached}
 use Rattle.marker.specs.Rounds.{Found, Searched}
 use Rattle.marker.proofs.Ends.{chosen_joined, head_joined, head_unchosen, one_chosen}
 use Rattle.marker.proofs.Keeping.{keeps}
@@ -69,19 +70,23 @@ module _ (w : Way) (d : Draft) (found : ℕ → Option Step) (is_found : Searche
 remark_takes : (found : Way → ℕ → Option Step) (w : Way) (i : ℕ) (l : Line) → marked w (remark_of found i l).marks ≡ takes (found w (house_at (near w) l)) i
 remark_takes found w i l = grind arith
 
-module _ (d : Draft) (found : Way → ℕ → Option Step) (is_found : (w : Way) → Searched w (lines_of d) d.houses (found w)) where
-  -- a house is cut off
-  pub unreached : (v : Fault) → BothComplete found d.houses (Err v) → Unreached d v
-  unreached v (inl cut) = inl (cut.0, first_cut Way.Direct d (found Way.Direct) (is_found Way.Direct) NoWayFromHead v cut)
-  unreached v (inr (out, cut)) =
-      inr (cut.0, joined_up Way.Direct d (found Way.Direct) (is_found Way.Direct) out, first_cut Way.Back d (found Way.Back) (is_found Way.Back) NoWayToHead v cut)
+no_head : (tables : Tables) (w : Way) → entry_on tables w 0 ≡ None
+no_head tables Way.Direct = tables.direct.head
+no_head tables Way.Back = tables.back.head
 
-  module _ (e : Draft) (rem : RemarkedBy d found e) (head : (w : Way) → found w 0 ≡ None) where
-    line_is : (i : ℕ) → i < d.lines → get_or (lines_of e) i blank ≡ remark_of found i (get_or (lines_of d) i blank)
+module _ (d : Draft) (tables : Tables) (is_found : (w : Way) → Searched w (lines_of d) d.houses (entry_on tables w)) where
+  -- a house is cut off
+  pub unreached : (v : Fault) → BothComplete (entry_on tables) d.houses (Err v) → Unreached d v
+  unreached v (inl cut) = inl (cut.0, first_cut Way.Direct d (entry_on tables Way.Direct) (is_found Way.Direct) NoWayFromHead v cut)
+  unreached v (inr (out, cut)) =
+      inr (cut.0, joined_up Way.Direct d (entry_on tables Way.Direct) (is_found Way.Direct) out, first_cut Way.Back d (entry_on tables Way.Back) (is_found Way.Back) NoWayToHead v cut)
+
+  module _ (e : Draft) (rem : RemarkedBy d (entry_on tables) e) where
+    line_is : (i : ℕ) → i < d.lines → get_or (lines_of e) i blank ≡ remark_of (entry_on tables) i (get_or (lines_of d) i blank)
     line_is i lt =
         get_or-take e.lines e.records i blank (omega (arith, rem.1))
         ∙ rem.3.1 i lt
-        ∙ ap (remark_of found i) (sym (get_or-take d.lines d.records i blank lt))
+        ∙ ap (remark_of (entry_on tables) i) (sym (get_or-take d.lines d.records i blank lt))
 
     past : (i : ℕ) → d.lines ≤ i → get_or (lines_of d) i blank ≡ get_or (lines_of e) i blank
     past i ge =
@@ -103,16 +108,16 @@ module _ (d : Draft) (found : Way → ℕ → Option Step) (is_found : (w : Way)
         let l = get_or (lines_of d) i blank in
         let h = house_at (near w) l in
         let within : h < d.houses = near_below w d.houses l (form_of d i (omega (arith, length_lines d))) in
-        let marks : marked w (get_or (lines_of e) i blank).marks ≡ takes (found w h) i = ap (λ x. marked w x.marks) (line_is i lt) ∙ remark_takes found w i l in (
+        let marks : marked w (get_or (lines_of e) i blank).marks ≡ takes (entry_on tables w h) i = ap (λ x. marked w x.marks) (line_is i lt) ∙ remark_takes (entry_on tables) w i l in (
           λ on.
               ⊎_elim
-              (λ z. absurd (false≢true (sym (ap (λ o. takes o i) (ap (found w) z ∙ head w)) ∙ sym marks ∙ on)))
-              (λ far. takes_chosen w (lines_of d) h i (found w h) (is_found w h (omega arith) within) (sym marks ∙ on))
+              (λ z. absurd (false≢true (sym (ap (λ o. takes o i) (ap (entry_on tables w) z ∙ no_head tables w)) ∙ sym marks ∙ on)))
+              (λ far. takes_chosen w (lines_of d) h i (entry_on tables w h) (is_found w h (omega arith) within) (sym marks ∙ on))
               (cases_eq h 0),
           λ chosen.
               ⊎_elim
               (λ z. absurd (head_unchosen w (lines_of d) i (subst (λ k. Chosen w (lines_of d) k i) z chosen)))
-              (λ far. marks ∙ chosen_takes w (lines_of d) h i (found w h) (is_found w h (omega arith) within) chosen)
+              (λ far. marks ∙ chosen_takes w (lines_of d) h i (entry_on tables w h) (is_found w h (omega arith) within) chosen)
               (cases_eq h 0),
         )
 
@@ -120,15 +125,15 @@ module _ (d : Draft) (found : Way → ℕ → Option Step) (is_found : (w : Way)
     remarked = (rem.0, rem.1, rem.2, same_ends, chosen_marked, rem.4)
 
     -- the judge takes it
-    pub marked_draft : BothComplete found d.houses (Ok tt) → (r : Result Plan Fault) → Judged e r → MarkDraft d r
+    pub marked_draft : BothComplete (entry_on tables) d.houses (Ok tt) → (r : Result Plan Fault) → Judged e r → MarkDraft d r
     marked_draft there (Ok p) same = (
-      joined_up Way.Direct d (found Way.Direct) (is_found Way.Direct) there.0,
-      joined_up Way.Back d (found Way.Back) (is_found Way.Back) there.1,
+      joined_up Way.Direct d (entry_on tables Way.Direct) (is_found Way.Direct) there.0,
+      joined_up Way.Back d (entry_on tables Way.Back) (is_found Way.Back) there.1,
       subst (Remarked d) (sym same) remarked,
     )
     marked_draft there (Err v) (q, _, (lt, broken, _), _) =
         absurd (broken (keeps d e remarked each q v.place lt))
       where
         each : (w : Way) (h : ℕ) → 1 ≤ h → h < d.houses → (i : ℕ) × Chosen w (lines_of d) h i
-        each Way.Direct = all_chosen Way.Direct d (found Way.Direct) (is_found Way.Direct) there.0
-        each Way.Back = all_chosen Way.Back d (found Way.Back) (is_found Way.Back) there.1
+        each Way.Direct = all_chosen Way.Direct d (entry_on tables Way.Direct) (is_found Way.Direct) there.0
+        each Way.Back = all_chosen Way.Back d (entry_on tables Way.Back) (is_found Way.Back) there.1
