@@ -1,7 +1,8 @@
 -- What the tables of the search make of a draft.
 use Rattle.std.proofs.Common.{◌≡◌, ℕ, zero, suc, ◌<◌, ◌≤◌, true, false, List, get_or, is_some, Some, None, Ok, Err, Decides, Option, Result, sym, ap, ◌∙◌, subst, inl, inr, ⊎_elim, arith}
 use Rattle.std.proofs.lemmas.List.{get_or_past, get_or-take}
-use Rattle.std.proofs.lemmas.Bool.{cases_eq, cases_lt, eq-eqb, eqb-true, false≢true, true≢false}
+use Rattle.std.proofs.lemmas.Bool.Decides.{Decides-at}
+use Rattle.std.proofs.lemmas.Bool.{cases_lt, eq-eqb, eqb-true, false≢true, true≢false}
 use Rattle.fault.specs.declared.causes.Cause.{Cause}
 use Rattle.fault.specs.declared.causes.Cause.TheVariants.{NoWayFromHead, NoWayToHead}
 use Rattle.fault.specs.declared.faults.Fault.{Fault}
@@ -35,13 +36,12 @@ module _ (w : Way) (xs : List Line) (h : ℕ) where
   found_cut (Some step) chosen e = absurd (true≢false e)
   found_cut None cut e = cut
 
-  takes_chosen : (i : ℕ) (o : Option Step) → Found w xs h o → takes o i ≡ true → Chosen w xs h i
-  takes_chosen i (Some step) chosen e = subst (Chosen w xs h) (eqb-true step.line i e) chosen
-  takes_chosen i None cut e = absurd (false≢true e)
-
-  chosen_takes : (i : ℕ) (o : Option Step) → Found w xs h o → Chosen w xs h i → takes o i ≡ true
-  chosen_takes i (Some step) chosen here = eq-eqb step.line i (one_chosen w xs h step.line i chosen here)
-  chosen_takes i None cut here = absurd (chosen_joined w xs h i here cut)
+  takes_decides : (i : ℕ) (o : Option Step) → Found w xs h o → Decides (takes o i) (Chosen w xs h i)
+  takes_decides i (Some step) chosen = (
+    λ e. subst (Chosen w xs h) (eqb-true step.line i e) chosen,
+    λ here. eq-eqb step.line i (one_chosen w xs h step.line i chosen here),
+  )
+  takes_decides i None cut = (λ e. absurd (false≢true e), λ here. absurd (chosen_joined w xs h i here cut))
 
 -- A WHOLE TABLE
 
@@ -81,6 +81,13 @@ module _ (d : Draft) (tables : Tables) (is_found : (w : Way) → Searched w (lin
   unreached v (inr (out, cut)) =
       inr (cut.0, joined_up Way.Direct d (entry_on tables Way.Direct) (is_found Way.Direct) out, first_cut Way.Back d (entry_on tables Way.Back) (is_found Way.Back) NoWayToHead v cut)
 
+  taken : (w : Way) (h i : ℕ) → h < d.houses → Decides (takes (entry_on tables w h) i) (Chosen w (lines_of d) h i)
+  taken w zero i lt = (
+    λ on. absurd (false≢true (sym (ap (λ o. takes o i) (no_head tables w)) ∙ on)),
+    λ chosen. absurd (head_unchosen w (lines_of d) i chosen),
+  )
+  taken w (suc h) i lt = takes_decides w (lines_of d) (suc h) i (entry_on tables w (suc h)) (is_found w (suc h) (omega arith) lt)
+
   module _ (e : Draft) (rem : RemarkedBy d (entry_on tables) e) where
     line_is : (i : ℕ) → i < d.lines → get_or (lines_of e) i blank ≡ remark_of (entry_on tables) i (get_or (lines_of d) i blank)
     line_is i lt =
@@ -106,20 +113,9 @@ module _ (d : Draft) (tables : Tables) (is_found : (w : Way) → Searched w (lin
     chosen_marked : (w : Way) (i : ℕ) → i < d.lines → Decides (marked w (get_or (lines_of e) i blank).marks) (Chosen w (lines_of d) (house_at (near w) (get_or (lines_of d) i blank)) i)
     chosen_marked w i lt =
         let l = get_or (lines_of d) i blank in
-        let h = house_at (near w) l in
-        let within : h < d.houses = near_below w d.houses l (form_of d i (omega (arith, length_lines d))) in
-        let marks : marked w (get_or (lines_of e) i blank).marks ≡ takes (entry_on tables w h) i = ap (λ x. marked w x.marks) (line_is i lt) ∙ remark_takes (entry_on tables) w i l in (
-          λ on.
-              ⊎_elim
-              (λ z. absurd (false≢true (sym (ap (λ o. takes o i) (ap (entry_on tables w) z ∙ no_head tables w)) ∙ sym marks ∙ on)))
-              (λ far. takes_chosen w (lines_of d) h i (entry_on tables w h) (is_found w h (omega arith) within) (sym marks ∙ on))
-              (cases_eq h 0),
-          λ chosen.
-              ⊎_elim
-              (λ z. absurd (head_unchosen w (lines_of d) i (subst (λ k. Chosen w (lines_of d) k i) z chosen)))
-              (λ far. marks ∙ chosen_takes w (lines_of d) h i (entry_on tables w h) (is_found w h (omega arith) within) chosen)
-              (cases_eq h 0),
-        )
+        Decides-at _ _
+        (ap (λ x. marked w x.marks) (line_is i lt) ∙ remark_takes (entry_on tables) w i l)
+        (taken w (house_at (near w) l) i (near_below w d.houses l (form_of d i (omega (arith, length_lines d)))))
 
     remarked : Remarked d e
     remarked = (rem.0, rem.1, rem.2, same_ends, chosen_marked, rem.4)
