@@ -29,23 +29,16 @@ impl Tables {
         }
     }
 
-    // The table of lines with each line marked anew.
-    fn remarked_lines(&self, draft: &Draft) -> [Line; 128]
-        ensures { Retabled draft.now (entry_on self.now) result }
+    // The draft with each line marked anew and the counters that follow.
+    pub(crate) fn remarked(&self, draft: &Draft) -> Draft
+        ensures { RemarkedBy draft.now (entry_on self.now) result }
     {
         let mut records = draft.records;
         for (number, line) in draft.list().iter().enumerate() {
             records[number] = self.remark(number, *line);
         }
-        records
-    }
-
-    // The draft with each line marked anew and the counters that follow.
-    pub(crate) fn remarked(&self, draft: &Draft) -> Draft
-        ensures { RemarkedBy draft.now (entry_on self.now) result }
-    {
         let mut marked = *draft;
-        marked.records = self.remarked_lines(draft);
+        marked.records = records;
         marked.counted()
     }
 }

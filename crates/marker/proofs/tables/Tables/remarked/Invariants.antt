@@ -1,7 +1,7 @@
 use Rattle.std.proofs.Common.{◌≡◌, ℕ, ◌<◌, ◌≤◌, length, get_or}
 use Rattle.lines.specs.Lines.{blank}
 use Rattle.marker.specs.Marked.{entry_on, remark_of}
-use Rattle.marker.proofs.tables.Tables.remarked_lines.Given as goal
+use Rattle.marker.proofs.tables.Tables.remarked.Given as goal
 
 abbrev pub invariant-loop-number : goal.invariant-loop-number
 invariant-loop-number l =
