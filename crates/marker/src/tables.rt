@@ -1,4 +1,4 @@
-ghost use Rattle.std.specs.Prelude.{◌≡◌, length, None, slice_index_or};
+ghost use Rattle.std.specs.Prelude.{◌≡◌, None, slice_index_or};
 
 // How a house is reached: its distance, and its line one step towards the head.
 #[derive(Clone, Copy)]
@@ -11,7 +11,6 @@ pub struct Step {
 #[derive(Clone, Copy)]
 pub struct Table {
     pub steps: [Option<Step>; 48],
-    ghost whole: { length steps ≡ 48 },
     ghost head: { slice_index_or steps 0 None ≡ None },
 }
 
