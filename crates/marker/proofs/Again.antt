@@ -1,7 +1,8 @@
 -- Marking again changes nothing, and a file in form is refused exactly when some house is cut off.
-use Rattle.std.proofs.Common.{◌≡◌, ℕ, ◌<◌, Bool, true, false, List, [], ◌∷◌, get_or, take, is_err, Ok, Err, count_by, Result, sym, refl, ap, ◌∙◌, subst, ap₂, inl, inr, ⊎_elim, arith}
+use Rattle.std.proofs.Common.{◌≡◌, ℕ, ◌<◌, Bool, List, [], ◌∷◌, get_or, take, is_err, Ok, Err, count_by, Result, sym, refl, ap, ◌∙◌, subst, ap₂, inl, inr, ⊎_elim, arith}
 use Rattle.std.proofs.lemmas.List.{ext_get_or, get_or-take}
 use Rattle.std.proofs.lemmas.Bool.{cases_lt, false≢true}
+use Rattle.std.proofs.lemmas.Bool.Decides.{Decides-like, same_from_decides}
 use Rattle.fault.specs.declared.faults.Fault.{Fault}
 use Rattle.lines.specs.declared.lines.End.{End}
 use Rattle.lines.specs.declared.lines.Line.{Line}
@@ -25,24 +26,19 @@ use Rattle.marker.proofs.Ends.{chosen_same, end_same, ends_back}
 -- MARKING AGAIN
 
 marks_back : (x : Marks) → marks_of (marked Way.Direct x) (marked Way.Back x) ≡ x
-marks_back Marks.Neither = refl
-marks_back Marks.Direct = refl
-marks_back Marks.Back = refl
-marks_back Marks.Both = refl
-
-one_truth : (a b : Bool) → (a ≡ true → b ≡ true) → (b ≡ true → a ≡ true) → a ≡ b
-one_truth true b there back = sym (there refl)
-one_truth false true there back = back refl
-one_truth false false there back = refl
+marks_back x = grind arith
 
 module _ (d e g : Draft) (once : Remarked d e) (twice : Remarked e g) where
   mark_same : (w : Way) (i : ℕ) → i < e.lines → marked w (get_or (lines_of g) i blank).marks ≡ marked w (get_or (lines_of e) i blank).marks
   mark_same w i lt =
       let here : i < d.lines = omega (arith, once.1) in
       let near-is = end_same (lines_of d) (lines_of e) once.3 (near w) i in
-      one_truth _ _
-      (λ on. (once.4 w i here).1 (subst (λ h. Chosen w (lines_of d) h i) (sym near-is) (chosen_same (lines_of e) (lines_of d) (ends_back _ _ once.3) w _ i ((twice.4 w i lt).0 on))))
-      (λ on. (twice.4 w i lt).1 (chosen_same (lines_of d) (lines_of e) once.3 w _ i (subst (λ h. Chosen w (lines_of d) h i) near-is ((once.4 w i here).0 on))))
+      same_from_decides _ _
+      (Decides-like _
+      (λ c. subst (λ h. Chosen w (lines_of d) h i) (sym near-is) (chosen_same (lines_of e) (lines_of d) (ends_back _ _ once.3) w _ i c))
+      (λ c. chosen_same (lines_of d) (lines_of e) once.3 w _ i (subst (λ h. Chosen w (lines_of d) h i) near-is c))
+      (twice.4 w i lt))
+      (once.4 w i here)
 
   line_same : (i : ℕ) → i < e.lines → get_or g.records i blank ≡ get_or e.records i blank
   line_same i lt =

@@ -1,14 +1,17 @@
 -- What the rounds of the search find: after s rounds a house has its chosen line if its distance is at most s, and
 -- otherwise all its trails are longer than s.
-use Rattle.std.proofs.Common.{◌≡◌, ℕ, zero, suc, ◌+◌, ◌-◌, ◌<◌, ◌≤◌, Bool, true, false, eqb, ◌⊎◌, List, [], ◌∷◌, length, get_or, Some, None, Option, sym, refl, ◌∙◌, subst, subst₂, inl, inr, ⊎_elim, arith}
-use Rattle.std.proofs.lemmas.Bool.{and_from, and_parts, both_ways, cases_Bool, cases_eq, cases_lt, cond-false, cond-true, eq-eqb, eqb-true, false≢true, ne_eqb}
+use Rattle.std.proofs.Common.{◌≡◌, ℕ, zero, suc, ◌+◌, ◌-◌, ◌<◌, ◌≤◌, true, eqb, List, [], ◌∷◌, length, get_or, Some, None, Option, sym, refl, ◌∙◌, subst, ⊎_elim, arith}
+use Rattle.std.specs.List.{position_or_len}
+use Rattle.std.proofs.Math.Dec.{eqb-suc-zero}
+use Rattle.std.proofs.lemmas.List.Sums.{fails_before_first, passes_at_first}
+use Rattle.std.proofs.lemmas.Bool.{and_from, and_parts, both_ways, cases_lt, eq-eqb, eqb-true, false≢true}
 use Rattle.lines.proofs.Depths.{shallow}
 use Rattle.lines.proofs.Trails.{Trail, turned, turned_length, trail_route, route_trail}
 use Rattle.lines.specs.declared.lines.Line.{Line}
 use Rattle.lines.specs.declared.lines.Way.{Way}
 use Rattle.lines.specs.Lines.{blank, house_at, near, beyond, InForm}
 use Rattle.plan.proofs.Ways.{end_below}
-use Rattle.marker.specs.declared.rounds.Step.{Step}
+use Rattle.marker.specs.declared.tables.Step.{Step}
 use Rattle.marker.specs.Distances.{any_line, Distance, Chosen}
 use Rattle.marker.specs.Rounds.{distance_is, stands, steps_from, Next, Found}
 
@@ -18,22 +21,14 @@ abbrev pub Away : Way → List Line → ℕ → ℕ → Type 0
 Away w xs h d =
     ((is : List ℕ) × (length is ≡ d) × Trail w any_line xs h is) × ((js : List ℕ) → Trail w any_line xs h js → d ≤ length js)
 
--- the lowest-numbered line that passes a test, or that there is none
-pick : (p : Line → Bool) (xs : List Line) → ((i : ℕ) × (i < length xs) × (p (get_or xs i blank) ≡ true) × ((j : ℕ) → j < i → p (get_or xs j blank) ≡ true → ⊥)) ⊎ ((j : ℕ) → j < length xs → p (get_or xs j blank) ≡ true → ⊥)
-pick p [] = inr (λ j h _. omega arith)
-pick p (x ∷ xs) = ⊎_elim (λ e. inl (0, omega arith, e, λ j h _. omega arith)) (λ e. next e (pick p xs)) (cases_Bool (p x))
-  where
-    before : p x ≡ false → (k : ℕ) → ((j : ℕ) → j < k → p (get_or xs j blank) ≡ true → ⊥) → (j : ℕ) → j < suc k → p (get_or (x ∷ xs) j blank) ≡ true → ⊥
-    before e k none zero h t = both_ways (p x) e t
-    before e k none (suc j) h t = none j (omega arith) t
-
-    next : p x ≡ false → ((i : ℕ) × (i < length xs) × (p (get_or xs i blank) ≡ true) × ((j : ℕ) → j < i → p (get_or xs j blank) ≡ true → ⊥)) ⊎ ((j : ℕ) → j < length xs → p (get_or xs j blank) ≡ true → ⊥) → ((i : ℕ) × (i < suc (length xs)) × (p (get_or (x ∷ xs) i blank) ≡ true) × ((j : ℕ) → j < i → p (get_or (x ∷ xs) j blank) ≡ true → ⊥)) ⊎ ((j : ℕ) → j < suc (length xs) → p (get_or (x ∷ xs) j blank) ≡ true → ⊥)
-    next e (inl (i, lt, t, low)) = inl (suc i, omega arith, t, before e i low)
-    next e (inr none) = inr (before e (length xs) none)
-
 pub away_zero : (w : Way) (xs : List Line) (h : ℕ) → Away w xs h 0 → h ≡ 0
 away_zero w xs h (([], long, t), least) = t
 away_zero w xs h ((i ∷ is, long, t), least) = absurd (omega arith)
+
+-- the distance of an entry, or 0 where there is none
+abbrev depth_of : Option Step → ℕ
+depth_of (Some step) = step.distance
+depth_of None = 0
 
 module _ (w : Way) (xs : List Line) where
   pub away_distance : (h d : ℕ) → Away w xs h d → Distance w xs h d
@@ -51,7 +46,7 @@ module _ (w : Way) (xs : List Line) where
   pub one_distance : (h a b : ℕ) → Away w xs h a → Away w xs h b → a ≡ b
   one_distance h a b ((is, ia, ti), leasta) ((js, jb, tj), leastb) = omega (arith, leasta js tj, leastb is ti)
 
-  head_away : Away w xs 0 0
+  pub head_away : Away w xs 0 0
   head_away = (([], refl, refl), λ js t. omega arith)
 
   -- ENTRIES
@@ -73,6 +68,14 @@ module _ (w : Way) (xs : List Line) where
   entry_within s g (Some step) (le, away, _) is t short = (step.distance, le, away)
   entry_within s g None none is t short = absurd (omega (arith, none is t))
 
+  depth_away : (s g e : ℕ) (o : Option Step) → Entry s g o → e ≤ s → Away w xs g e → depth_of o ≡ e
+  depth_away s g e (Some step) (le, away, _) below at = one_distance g step.distance e away at
+  depth_away s g e None none below at = absurd (omega (arith, none at.0.0 at.0.2, at.0.1))
+
+  away_depth : (s g k : ℕ) (o : Option Step) → Entry s g o → depth_of o ≡ suc k → (suc k ≤ s) × Away w xs g (suc k)
+  away_depth s g k (Some step) (le, away, _) e = (omega arith, subst (Away w xs g) e away)
+  away_depth s g k None none e = absurd (omega arith)
+
   pub entry_start : (h : ℕ) → 1 ≤ h → Entry 0 h None
   entry_start h far [] e = absurd (omega arith)
   entry_start h far (i ∷ is) t = omega arith
@@ -83,29 +86,16 @@ module _ (w : Way) (xs : List Line) where
 
     module _ (s : ℕ) (found : ℕ → Option Step) (ok : (g : ℕ) → 1 ≤ g → g < n → Entry s g (found g)) where
       stands_away : (g : ℕ) → g < n → stands found s g ≡ true → Away w xs g s
-      stands_away g lt there =
-          ⊎_elim
-          (λ e.
-          let none : s ≡ 0 = eqb-true s 0 (sym (cond-true (eqb g 0) (eqb s 0) (distance_is (found g) s) (eq-eqb g 0 e)) ∙ there) in
-          subst₂ (Away w xs) (sym e) (sym none) head_away)
-          (λ far. entry_at s g (found g) (ok g (omega arith) lt) (sym (cond-false (eqb g 0) (eqb s 0) (distance_is (found g) s) (ne_eqb g 0 far)) ∙ there))
-          (cases_eq g 0)
+      stands_away zero lt there = subst (Away w xs 0) (sym (eqb-true s 0 there)) head_away
+      stands_away (suc g) lt there = entry_at s (suc g) (found (suc g)) (ok (suc g) (omega arith) lt) (rw eqb-suc-zero at there)
 
       away_stands : (g : ℕ) → g < n → Away w xs g s → stands found s g ≡ true
-      away_stands g lt at =
-          ⊎_elim
-          (λ e.
-          let none : s ≡ 0 = one_distance 0 s 0 (subst (λ k. Away w xs k s) e at) head_away in
-          cond-true (eqb g 0) (eqb s 0) (distance_is (found g) s) (eq-eqb g 0 e) ∙ eq-eqb s 0 none)
-          (λ far. cond-false (eqb g 0) (eqb s 0) (distance_is (found g) s) (ne_eqb g 0 far) ∙ entry_is s g (found g) (ok g (omega arith) lt) at)
-          (cases_eq g 0)
+      away_stands zero lt at = eq-eqb s 0 (one_distance 0 s 0 at head_away)
+      away_stands (suc g) lt at = rw eqb-suc-zero (entry_is s (suc g) (found (suc g)) (ok (suc g) (omega arith) lt) at)
 
       within : (g : ℕ) → g < n → (is : List ℕ) → Trail w any_line xs g is → length is ≤ s → (e : ℕ) × (e ≤ s) × Away w xs g e
-      within g lt is t short =
-          ⊎_elim
-          (λ e. (0, omega arith, subst (λ k. Away w xs k 0) (sym e) head_away))
-          (λ far. entry_within s g (found g) (ok g (omega arith) lt) is t short)
-          (cases_eq g 0)
+      within zero lt is t short = (0, omega arith, head_away)
+      within (suc g) lt is t short = entry_within s (suc g) (found (suc g)) (ok (suc g) (omega arith) lt) is t short
 
       stepping : (h i : ℕ) → i < length xs → house_at (near w) (get_or xs i blank) ≡ h → Away w xs (house_at (beyond w) (get_or xs i blank)) s → steps_from w found s h (get_or xs i blank) ≡ true
       stepping h i lt at away =
@@ -151,10 +141,11 @@ module _ (w : Way) (xs : List Line) where
       follow : (h : ℕ) (f : Option Step) → (o : Option Step) × Next w xs found s h f o
       follow h (Some step) = (Some step, refl)
       follow h None =
+          let p = steps_from w found s h in
           ⊎_elim
-          (λ first. (Some (record { distance = s + 1; line = first.0 }), (refl, first.1, first.2, first.3)))
-          (λ none. (None, none))
-          (pick (steps_from w found s h) xs)
+          (λ lt. (Some (record { distance = s + 1; line = position_or_len p xs }), (refl, lt, passes_at_first p xs blank lt, λ j below. both_ways _ (fails_before_first p xs j blank below))))
+          (λ ge. (None, λ j lt. both_ways _ (fails_before_first p xs j blank (omega arith))))
+          (cases_lt (position_or_len p xs) (length xs))
 
     entries : (s : ℕ) → (found : ℕ → Option Step) × ((g : ℕ) → 1 ≤ g → g < n → Entry s g (found g))
     entries zero = ((λ _. None), λ g far lt. entry_start g far)
@@ -166,17 +157,6 @@ module _ (w : Way) (xs : List Line) where
 
     -- EVERY DISTANCE IS BELOW n
 
-    known : (s g : ℕ) → g < n → ((e : ℕ) × (e ≤ s) × Away w xs g e) ⊎ ((is : List ℕ) → Trail w any_line xs g is → s < length is)
-    known s g lt =
-        ⊎_elim
-        (λ e. inl (0, omega arith, subst (λ k. Away w xs k 0) (sym e) head_away))
-        (λ far. told ((entries s).0 g) ((entries s).1 g (omega arith) lt))
-        (cases_eq g 0)
-      where
-        told : (o : Option Step) → Entry s g o → ((e : ℕ) × (e ≤ s) × Away w xs g e) ⊎ ((is : List ℕ) → Trail w any_line xs g is → s < length is)
-        told (Some step) (le, away, _) = inl (step.distance, le, away)
-        told None none = inr none
-
     away_down : (h k : ℕ) → Away w xs h (suc k) → (g : ℕ) × (g < n) × Away w xs g k
     away_down h k (([], long, t), least) = absurd (omega arith)
     away_down h k ((i ∷ is, long, (lt, ok, at, t)), least) = (
@@ -186,45 +166,30 @@ module _ (w : Way) (xs : List Line) where
     )
 
     module _ (s : ℕ) where
-      depth_at : (g : ℕ) → (g < n) ⊎ (n ≤ g) → ℕ
-      depth_at g (inl lt) = elim (known s g lt) [ inl k ↦ k.0 | inr _ ↦ 0 ]
-      depth_at g (inr _) = 0
-
-      depth : ℕ → ℕ
-      depth g = depth_at g (cases_lt g n)
+      -- a house's distance, or 0 where it is not reached
+      abbrev depth : ℕ → ℕ
+      depth zero = 0
+      depth (suc g) = depth_of ((entries s).0 (suc g))
 
       depth_is : (g e : ℕ) → g < n → e ≤ s → Away w xs g e → depth g ≡ e
-      unfolding depth depth_at
-      depth_is g e lt le away = at (cases_lt g n)
-        where
-          at : (c : (g < n) ⊎ (n ≤ g)) → depth_at g c ≡ e
-          at (inl l) =
-              elim (known s g l) as (λ k. elim k [ inl j ↦ j.0 | inr _ ↦ 0 ] ≡ e)
-              [ inl k ↦ one_distance g k.0 e k.2 away | inr none ↦ absurd (omega (arith, none away.0.0 away.0.2, away.0.1)) ]
-          at (inr ge) = absurd (omega arith)
+      depth_is zero e lt le away = one_distance 0 0 e head_away away
+      depth_is (suc g) e lt le away = depth_away s (suc g) e ((entries s).0 (suc g)) ((entries s).1 (suc g) (omega arith) lt) le away
 
-      deep : (h k : ℕ) → depth h ≡ suc k → (suc k ≤ s) × Away w xs h (suc k)
-      unfolding depth depth_at
-      deep h k e = at (cases_lt h n) e
-        where
-          at : (c : (h < n) ⊎ (n ≤ h)) → depth_at h c ≡ suc k → (suc k ≤ s) × Away w xs h (suc k)
-          at (inl l) =
-              elim (known s h l) as (λ j. elim j [ inl q ↦ q.0 | inr _ ↦ 0 ] ≡ suc k → (suc k ≤ s) × Away w xs h (suc k))
-              [ inl j ↦ (λ same. (omega (arith, j.1, same), subst (Away w xs h) same j.2)) | inr _ ↦ (λ same. absurd (omega arith)) ]
-          at (inr ge) = λ same. absurd (omega arith)
+      deep : (h k : ℕ) → h < n → depth h ≡ suc k → (suc k ≤ s) × Away w xs h (suc k)
+      deep zero k lt e = absurd (omega arith)
+      deep (suc h) k lt e = away_depth s (suc h) k ((entries s).0 (suc h)) ((entries s).1 (suc h) (omega arith) lt) e
 
       down : (h : ℕ) → h < n → (k : ℕ) → depth h ≡ suc k → (g : ℕ) × (g < n) × (depth g ≡ k)
       down h lt k e =
-          let d = deep h k e in
+          let d = deep h k lt e in
           let next = away_down h k d.1 in
           (next.0, next.1, depth_is next.0 k next.1 (omega (arith, d.0)) next.2)
 
     pub near_by : (h : ℕ) → h < n → (is : List ℕ) → Trail w any_line xs h is → (e : ℕ) × (e < n) × Away w xs h e
     near_by h lt is t =
-        ⊎_elim
-        (λ k. (k.0, subst (λ m. m < n) (depth_is (length is) h k.0 lt k.1 k.2) (shallow n (depth (length is)) (down (length is)) h lt), k.2))
-        (λ none. absurd (omega (arith, none is t)))
-        (known (length is) h lt)
+        let s = length is in
+        let k = within s (entries s).0 (entries s).1 h lt is t (omega arith) in
+        (k.0, subst (λ m. m < n) (depth_is s h k.0 lt k.1 k.2) (shallow n (depth s) (down s) h lt), k.2)
 
     -- after n - 1 rounds the search is over
     pub entry_found : (h : ℕ) → h < n → (o : Option Step) → Entry (n - 1) h o → Found w xs h o

@@ -1,7 +1,7 @@
 -- A draft that is marked by its chosen lines keeps the five rules.
-use Rattle.std.proofs.Common.{◌≡◌, ℕ, zero, suc, ◌-◌, ◌<◌, ◌≤◌, true, eqb, List, length, get_or, count_by, sym, ◌∙◌, subst, inl, inr, ⊎_elim, arith}
-use Rattle.std.proofs.lemmas.Bool.{and_from, and_parts, cases_eq, cond-false, eq-eqb, eqb-true, ne_eqb}
-use Rattle.lines.specs.declared.lines.Line.{Line}
+use Rattle.std.proofs.Common.{◌≡◌, ℕ, zero, suc, ◌-◌, ◌<◌, ◌≤◌, true, eqb, length, get_or, sym, refl, ◌∙◌, subst, inl, inr, arith}
+use Rattle.std.proofs.Math.Dec.{eqb-suc-zero}
+use Rattle.std.proofs.lemmas.Bool.{and_from, and_parts, cond-false, eq-eqb, eqb-true}
 use Rattle.lines.specs.declared.lines.Way.{Way}
 use Rattle.lines.specs.Lines.{blank, house_at, near, beyond, marked, serves}
 use Rattle.plan.proofs.Counts.{counted, none_counted, one_counted}
@@ -14,14 +14,7 @@ use Rattle.plan.specs.Rules.{lines_of, due, Leads}
 use Rattle.marker.specs.Distances.{Distance, Chosen}
 use Rattle.marker.specs.Marked.{Remarked}
 use Rattle.marker.proofs.Ends.{end_same, one_chosen, head_unchosen}
-use Rattle.marker.proofs.Entries.{away_zero, distance_away, near_by, one_distance}
-
-leads_more : (w : Way) (ys : List Line) (s t h : ℕ) → s ≤ t → Leads w ys s h → Leads w ys t h
-leads_more w ys zero zero h le e = e
-leads_more w ys zero (suc t) h le e = inl e
-leads_more w ys (suc s) zero h le way = absurd (omega arith)
-leads_more w ys (suc s) (suc t) h le (inl e) = inl e
-leads_more w ys (suc s) (suc t) h le (inr (i, lt, serving, on)) = inr (i, lt, serving, leads_more w ys s t _ (omega arith) on)
+use Rattle.marker.proofs.Entries.{away_distance, away_zero, distance_away, head_away, near_by, one_distance}
 
 module _ (d e : Draft) (rem : Remarked d e) (w : Way) (chosen : (h : ℕ) → 1 ≤ h → h < d.houses → (i : ℕ) × Chosen w (lines_of d) h i) where
   lines_same : length (lines_of e) ≡ d.lines
@@ -48,46 +41,35 @@ module _ (d e : Draft) (rem : Remarked d e) (w : Way) (chosen : (h : ℕ) → 1 
   within h i c = omega (arith, c.0.0, lines_same, length_lines d)
 
   single : Kept (Rule.Single w) e
-  single h lt =
-      ⊎_elim
-      (λ z. subst (λ k. count_by (serves w k) (lines_of e) ≡ due k) (sym z) (none_counted (serves w 0) blank (lines_of e) (λ i l s. head_unchosen w (lines_of d) i (serves_chosen 0 i l s))))
-      (λ far.
-      let c = chosen h (omega arith) (omega (arith, rem.0)) in
-      let some = counted (serves w h) blank (lines_of e) c.0 (within h c.0 c.1) (chosen_serves h c.0 c.1) in
-      let few = one_counted (serves w h) blank (lines_of e) (λ i j li lj si sj. one_chosen w (lines_of d) h i j (serves_chosen h i li si) (serves_chosen h j lj sj)) in
-      let one : due h ≡ 1 = cond-false (eqb h 0) 0 1 (ne_eqb h 0 far) in
-      omega (arith, some, few, one))
-      (cases_eq h 0)
+  single zero lt = none_counted (serves w 0) blank (lines_of e) (λ i l s. head_unchosen w (lines_of d) i (serves_chosen 0 i l s))
+  single (suc h) lt =
+      let c = chosen (suc h) (omega arith) (omega (arith, rem.0)) in
+      let some = counted (serves w (suc h)) blank (lines_of e) c.0 (within (suc h) c.0 c.1) (chosen_serves (suc h) c.0 c.1) in
+      let few = one_counted (serves w (suc h)) blank (lines_of e) (λ i j li lj si sj. one_chosen w (lines_of d) (suc h) i j (serves_chosen (suc h) i li si) (serves_chosen (suc h) j lj sj)) in
+      let one : due (suc h) ≡ 1 = cond-false (eqb (suc h) 0) 0 1 (eqb-suc-zero h) in
+      omega (arith, some, few, one)
 
-  lead : (k h : ℕ) → h < d.houses → Distance w (lines_of d) h k → Leads w (lines_of e) k h
-  lead zero h lt dist = away_zero w (lines_of d) h (distance_away w (lines_of d) h 0 dist)
-  lead (suc k) h lt dist =
-      ⊎_elim
-      (λ z. inl z)
-      (λ far.
-      let c = chosen h (omega arith) lt in
-      let g = house_at (beyond w) (get_or (lines_of d) c.0 blank) in
+  lead : (s k h : ℕ) → k ≤ s → h < d.houses → Distance w (lines_of d) h k → Leads w (lines_of e) s h
+  lead zero k h le lt dist =
+      let none : k ≡ 0 = omega arith in
+      away_zero w (lines_of d) h (distance_away w (lines_of d) h 0 (subst (Distance w (lines_of d) h) none dist))
+  lead (suc s) k zero le lt dist = inl refl
+  lead (suc s) k (suc h) le lt dist =
+      let c = chosen (suc h) (omega arith) lt in
       let away = c.1.0.2 in
-      let same : suc away.0 ≡ suc k = one_distance w (lines_of d) h (suc away.0) (suc k) (distance_away w (lines_of d) h (suc away.0) away.2) (distance_away w (lines_of d) h (suc k) dist) in
-      let k_is : away.0 ≡ k = omega (arith, same) in
-      let on = lead k g (end_below w d.houses _ (form_of d c.0 c.1.0.0)) (subst (Distance w (lines_of d) g) k_is away.1) in
-      inr (c.0, within h c.0 c.1, chosen_serves h c.0 c.1, subst (Leads w (lines_of e) k) (end_same (lines_of d) (lines_of e) rem.3 (beyond w) c.0) on))
-      (cases_eq h 0)
+      let same = one_distance w (lines_of d) (suc h) (suc away.0) k (distance_away w (lines_of d) (suc h) (suc away.0) away.2) (distance_away w (lines_of d) (suc h) k dist) in
+      let on = lead s away.0 _ (omega (arith, same)) (end_below w d.houses _ (form_of d c.0 c.1.0.0)) away.1 in
+      inr (c.0, within (suc h) c.0 c.1, chosen_serves (suc h) c.0 c.1, subst (Leads w (lines_of e) s) (end_same (lines_of d) (lines_of e) rem.3 (beyond w) c.0) on)
 
   leading : Kept (Rule.Leading w) e
-  leading h lt =
-      ⊎_elim
-      (λ z. leads_more w (lines_of e) 0 (e.houses - 1) h (omega arith) z)
-      (λ far.
-      let here : h < d.houses = omega (arith, rem.0) in
-      let c = chosen h (omega arith) here in
-      let dist = c.1.0.2.2 in
-      let k = suc c.1.0.2.0 in
-      let away = distance_away w (lines_of d) h k dist in
-      let near-e = near_by w (lines_of d) d.houses (form_of d) h here away.0.0 away.0.2 in
-      let k_is : near-e.0 ≡ k = one_distance w (lines_of d) h near-e.0 k near-e.2 away in
-      leads_more w (lines_of e) k (e.houses - 1) h (omega (arith, near-e.1, k_is, rem.0)) (lead k h here dist))
-      (cases_eq h 0)
+  leading zero lt = lead (e.houses - 1) 0 0 (omega arith) (omega (arith, rem.0)) (away_distance w (lines_of d) 0 0 (head_away w (lines_of d)))
+  leading (suc h) lt =
+      let here : suc h < d.houses = omega (arith, rem.0) in
+      let dist = (chosen (suc h) (omega arith) here).1.0.2 in
+      let away = distance_away w (lines_of d) (suc h) (suc dist.0) dist.2 in
+      let close = near_by w (lines_of d) d.houses (form_of d) (suc h) here away.0.0 away.0.2 in
+      let same = one_distance w (lines_of d) (suc h) close.0 (suc dist.0) close.2 away in
+      lead (e.houses - 1) (suc dist.0) (suc h) (omega (arith, close.1, same, rem.0)) here dist.2
 
 pub keeps : (d e : Draft) → Remarked d e → ((w : Way) (h : ℕ) → 1 ≤ h → h < d.houses → (i : ℕ) × Chosen w (lines_of d) h i) → (q : Rule) → Kept q e
 keeps d e rem chosen (Rule.Single w) = single d e rem w (chosen w)

@@ -14,8 +14,10 @@ use Rattle.plan.specs.declared.rules.Rule.{Rule}
 use Rattle.plan.specs.Files.{file_of, Refused}
 use Rattle.plan.specs.Judged.{Kept}
 use Rattle.plan.specs.Rules.{lines_of}
-use Rattle.marker.specs.declared.rounds.Step.{Step}
+use Rattle.marker.specs.declared.tables.Step.{Step}
+use Rattle.marker.specs.declared.tables.Tables.{Tables}
 use Rattle.marker.specs.Distances.{Chosen, CutOff}
+use Rattle.marker.specs.Rounds.{entry_in}
 
 -- THE MARKS
 
@@ -94,29 +96,30 @@ MarksAgain f r q = (p : Plan) (d : Draft) → Remarked d p.draft → f ≡ file_
 
 -- BY TABLES OF LINES
 
+-- what the tables have for a house on each way
+abbrev pub entry_on : Tables → Way → ℕ → Option Step
+entry_on tables Way.Direct = entry_in tables.direct
+entry_on tables Way.Back = entry_in tables.back
+
 -- the table's line for the house is that line
 abbrev pub takes : Option Step → ℕ → Bool
 takes (Some step) i = step.line == i
 takes None i = false
 
 -- the line i marked by what its ends take
-abbrev pub remark_of : (ℕ → Option Step) → (ℕ → Option Step) → ℕ → Line → Line
-remark_of out home i l =
-    record { from = l.from; to = l.to; marks = marks_of (takes (out l.to) i) (takes (home l.from) i) }
+abbrev pub remark_of : (Way → ℕ → Option Step) → ℕ → Line → Line
+remark_of found i l =
+    record { from = l.from; to = l.to; marks = marks_of (takes (found Way.Direct l.to) i) (takes (found Way.Back l.from) i) }
 
-abbrev pub Retabled : Draft → (ℕ → Option Step) → (ℕ → Option Step) → List Line → Type 0
-Retabled d out home ls =
+abbrev pub Retabled : Draft → (Way → ℕ → Option Step) → List Line → Type 0
+Retabled d found ls =
     (length ls ≡ 128)
-    × ((i : ℕ) → i < d.lines → slice_index_or ls i blank ≡ remark_of out home i (slice_index_or d.records i blank))
+    × ((i : ℕ) → i < d.lines → slice_index_or ls i blank ≡ remark_of found i (slice_index_or d.records i blank))
     × ((i : ℕ) → d.lines ≤ i → slice_index_or ls i blank ≡ slice_index_or d.records i blank)
 
-abbrev pub RemarkedBy : Draft → (ℕ → Option Step) → (ℕ → Option Step) → Draft → Type 0
-RemarkedBy d out home e =
-    (e.houses ≡ d.houses)
-    × (e.lines ≡ d.lines)
-    × (e.capacity ≡ d.capacity)
-    × Retabled d out home e.records
-    × Kept Rule.Counters e
+abbrev pub RemarkedBy : Draft → (Way → ℕ → Option Step) → Draft → Type 0
+RemarkedBy d found e =
+    (e.houses ≡ d.houses) × (e.lines ≡ d.lines) × (e.capacity ≡ d.capacity) × Retabled d found e.records × Kept Rule.Counters e
 
 -- each house but the head has its line, or the lowest that has none is named
 abbrev pub Complete : (ℕ → Option Step) → ℕ → Cause → Result (Unit {0}) Fault → Type 0
@@ -129,7 +132,9 @@ Complete found n cause (Err v) =
     × ((g : ℕ) → 1 ≤ g → g < v.place → is_some (found g) ≡ true)
 
 -- both ways have their lines; or a house lacks its line from the head, or, where none does, its line to the head
-abbrev pub BothComplete : (ℕ → Option Step) → (ℕ → Option Step) → ℕ → Result (Unit {0}) Fault → Type 0
-BothComplete out home n (Ok _) = Complete out n NoWayFromHead (Ok tt) × Complete home n NoWayToHead (Ok tt)
-BothComplete out home n (Err v) =
-    Complete out n NoWayFromHead (Err v) ⊎ (Complete out n NoWayFromHead (Ok tt) × Complete home n NoWayToHead (Err v))
+abbrev pub BothComplete : (Way → ℕ → Option Step) → ℕ → Result (Unit {0}) Fault → Type 0
+BothComplete found n (Ok _) =
+    Complete (found Way.Direct) n NoWayFromHead (Ok tt) × Complete (found Way.Back) n NoWayToHead (Ok tt)
+BothComplete found n (Err v) =
+    Complete (found Way.Direct) n NoWayFromHead (Err v)
+    ⊎ (Complete (found Way.Direct) n NoWayFromHead (Ok tt) × Complete (found Way.Back) n NoWayToHead (Err v))

@@ -3,12 +3,13 @@ use Rattle.std.specs.Prelude.{◌≡◌, ℕ, ◌+◌, ◌<◌, ◌≤◌, Bool,
 use Rattle.lines.specs.declared.lines.Line.{Line}
 use Rattle.lines.specs.declared.lines.Way.{Way}
 use Rattle.lines.specs.Lines.{blank, house_at, near, beyond}
-use Rattle.marker.specs.declared.rounds.Step.{Step}
+use Rattle.marker.specs.declared.tables.Step.{Step}
+use Rattle.marker.specs.declared.tables.Table.{Table}
 use Rattle.marker.specs.Distances.{Chosen, CutOff}
 
 -- what a table has for a house
-abbrev pub entry_in : List (Option Step) → ℕ → Option Step
-entry_in table h = slice_index_or table h None
+abbrev pub entry_in : Table → ℕ → Option Step
+entry_in table h = slice_index_or table.steps h None
 
 -- an entry of that distance
 abbrev pub distance_is : Option Step → ℕ → Bool
@@ -34,16 +35,14 @@ Next w xs found s h None (Some step) =
 Next w xs found s h None None = (j : ℕ) → j < length xs → steps_from w found s h (slice_index_or xs j blank) ≢ true
 
 -- one round over the houses but the head
-abbrev pub Round : Way → List Line → ℕ → ℕ → List (Option Step) → List (Option Step) → Type 0
+abbrev pub Round : Way → List Line → ℕ → ℕ → Table → Table → Type 0
 Round w xs n s old new =
-    (length new ≡ 48)
-    × (entry_in new 0 ≡ entry_in old 0)
-    × ((h : ℕ) → 1 ≤ h → h < n → Next w xs (entry_in old) s h (entry_in old h) (entry_in new h))
+    (h : ℕ) → 1 ≤ h → h < n → Next w xs (entry_in old) s h (entry_in old h) (entry_in new h)
 
 -- what the search finds: for each house but the head its chosen line, or none where it is cut off
 abbrev pub Found : Way → List Line → ℕ → Option Step → Type 0
 Found w xs h (Some step) = Chosen w xs h step.line
 Found w xs h None = CutOff w xs h
 
-abbrev pub Searched : Way → List Line → ℕ → List (Option Step) → Type 0
-Searched w xs n table = (length table ≡ 48) × (entry_in table 0 ≡ None) × ((h : ℕ) → 1 ≤ h → h < n → Found w xs h (entry_in table h))
+abbrev pub Searched : Way → List Line → ℕ → (ℕ → Option Step) → Type 0
+Searched w xs n found = (h : ℕ) → 1 ≤ h → h < n → Found w xs h (found h)

@@ -4,5 +4,6 @@
 mod marking;
 mod marks;
 mod rounds;
+mod tables;
 
 pub use marking::mark;

@@ -1,34 +1,30 @@
-ghost use Rattle.std.specs.Prelude.{◌≡◌, ◌≤◌, length, is_err};
-ghost use Rattle.marker.specs.Marked.{BothComplete, Complete, MarkAnswer, MarkDraft, MarkPlan, MarksAgain, MarksPlanAgain, RefusesCutOff};
+ghost use Rattle.std.specs.Prelude.{is_err};
+ghost use Rattle.marker.specs.Marked.{entry_on, BothComplete, Complete, MarkAnswer, MarkDraft, MarkPlan, MarksAgain, MarksPlanAgain, RefusesCutOff};
 ghost use Rattle.marker.specs.Rounds.{entry_in};
 
-use crate::marks::remarked;
-use crate::rounds::{Table, entry, search};
+use crate::tables::{Table, Tables};
 use fault::{Cause, Fault};
-use lines::Way;
 use plan::{Draft, Plan};
 
-// Refuses at the lowest house but the head for which the table has no line.
-fn check(table: &Table, houses: usize, cause: Cause) -> Result<(), Fault>
-    requires { (houses ≤ 48) × (length table.now ≡ 48) }
-    ensures { Complete (entry_in table.now) houses cause result }
-{
-    for house in 1..houses {
-        if entry(table, house).is_none() {
-            return Err(Fault::new(cause, house));
+impl Table {
+    // Refuses the lowest house but the head for which the table has no line.
+    fn check(&self, houses: usize, cause: Cause) -> Result<(), Fault>
+        ensures { Complete (entry_in self.now) houses cause result }
+    {
+        match (1..houses).find(|house| self.entry(*house).is_none()) {
+            Some(house) => Err(Fault::new(cause, house)),
+            None => Ok(()),
         }
     }
-    Ok(())
 }
 
-// Refuses the lowest house to which there is no way from the head, and then the lowest from which there is none to it.
-fn check_both(direct: &Table, back: &Table, houses: usize) -> Result<(), Fault>
-    requires { (houses ≤ 48) × ((length direct.now ≡ 48) × (length back.now ≡ 48)) }
-    ensures { BothComplete (entry_in direct.now) (entry_in back.now) houses result }
-{
-    match check(direct, houses, Cause::NoWayFromHead) {
-        Ok(()) => check(back, houses, Cause::NoWayToHead),
-        Err(fault) => Err(fault),
+impl Tables {
+    // Refuses the lowest house to which there is no way from the head, and then the lowest from which there is none to it.
+    fn check(&self, houses: usize) -> Result<(), Fault>
+        ensures { BothComplete (entry_on self.now) houses result }
+    {
+        self.direct.check(houses, Cause::NoWayFromHead)?;
+        self.back.check(houses, Cause::NoWayToHead)
     }
 }
 
@@ -36,10 +32,9 @@ fn check_both(direct: &Table, back: &Table, houses: usize) -> Result<(), Fault>
 fn plan_of(draft: &Draft) -> Result<Plan, Fault>
     ensures { MarkDraft draft.now result }
 {
-    let direct = search(draft, Way::Direct);
-    let back = search(draft, Way::Back);
-    check_both(&direct, &back, draft.houses)?;
-    remarked(draft, &direct, &back).judge()
+    let tables = Tables::search(draft);
+    tables.check(draft.houses)?;
+    tables.remarked(draft).judge()
 }
 
 // The plan of the file marked anew, or why it is refused.
