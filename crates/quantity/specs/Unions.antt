@@ -4,7 +4,7 @@ use Rattle.std.proofs.Common.{sym, ◌∙◌, ap, mod-eq_of_lt, arith}
 use Rattle.std.proofs.lemmas.Nat.{and_comm, or_comm, and_mask}
 use Rattle.std.proofs.lemmas.Bool.{lt-ltb, and_from}
 use Rattle.quantity.specs.declared.flags.FlagFigures.{FlagFigures}
-use Rattle.quantity.specs.declared.sets.Sets.{Sets}
+use Rattle.quantity.specs.declared.flags.Sets.{Sets}
 use Rattle.quantity.specs.declared.words.Word.{Word}
 use Rattle.quantity.specs.Flags.{two_sets, sets, sets_bits, flags_sense}
 use Rattle.quantity.specs.Senses.{Laws}

@@ -9,7 +9,7 @@ use Rattle.plan.specs.Readers.{ReadPlan}
 use Rattle.quantity.specs.declared.choices.SizeFigures.{SizeFigures}
 use Rattle.quantity.specs.declared.extremes.Extreme.{Extreme}
 use Rattle.quantity.specs.declared.readings.Reading.{Reading}
-use Rattle.quantity.specs.declared.sets.Sets.{Sets}
+use Rattle.quantity.specs.declared.flags.Sets.{Sets}
 use Rattle.quantity.specs.declared.words.Word.{Word}
 use Rattle.quantity.specs.Counts.{Counted}
 use Rattle.quantity.specs.Flags.{flags_sense}

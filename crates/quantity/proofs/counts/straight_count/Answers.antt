@@ -10,6 +10,6 @@ returns-in_err-check g c =
 pub returns : goal.returns
 returns g c =
     record {
-      counts = (c.in_ok-check.ensures, c.figures_of.ensures);
+      counts = (c.in_ok-check.ensures, rw c.join_all.ensures at c.figures.ensures);
       order = any_order g.Q.Quantity.sense g.met.Q.Quantity.laws;
     }
