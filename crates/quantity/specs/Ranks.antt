@@ -3,26 +3,26 @@ use Rattle.std.specs.Prelude.{◌≡◌, ℕ, ◌+◌, ◌-◌, ◌*◌, ◌/◌
 use Rattle.std.proofs.Common.{⊎_elim, sym, ◌∙◌, ap, arith}
 use Rattle.std.proofs.lemmas.Bool.{cases_Bool, cond-true, cond-false, cond_both, ne_eqb, le-ltb, le-leb, lt-ltb, and_from, eqb-true, ltb-true, ltb-false}
 use Rattle.std.proofs.lemmas.Bool.Decides.{nat_tests}
-use Rattle.quantity.specs.declared.choices.Choice.{Choice}
 use Rattle.quantity.specs.declared.extremes.Extreme.{Extreme}
 use Rattle.quantity.specs.declared.words.Word.{Word}
 use Rattle.quantity.specs.declared.readings.Reading.{Reading}
 use Rattle.quantity.specs.Senses.{Laws}
-use Rattle.quantity.specs.Extremes.{size_in_house, extreme, goes_before, chosen, extreme_join, extreme_bits, extreme_word, found, extreme_back}
+use Rattle.quantity.specs.declared.extremes.SizeFigures.{SizeFigures}
+use Rattle.quantity.specs.Extremes.{Choice, Lowest, Highest, Measuring, extreme_sense, size_in_house, extreme, goes_before, chosen, extreme_join, extreme_bits, extreme_word, found, extreme_back}
 use Rattle.quantity.specs.Decided.{none_some, some_same, if_so_true, from_if_so}
 use Rattle.quantity.specs.Same.{same_word, same_extreme}
 
 abbrev rank : Choice → Extreme → ℕ
-rank Choice.Lowest x = x.size * 48 + x.house
-rank Choice.Highest x = (1500 - x.size) * 48 + x.house
+rank Lowest x = x.size * 48 + x.house
+rank Highest x = (1500 - x.size) * 48 + x.house
 
 rank_same : (o : Choice) (x y : Extreme) → rank o x ≡ rank o y → x ≡ y
-rank_same Choice.Lowest x y e = same_extreme x y (omega (arith, x.within, y.within)) (omega (arith, x.within, y.within))
-rank_same Choice.Highest x y e = same_extreme x y (omega (arith, x.within, y.within)) (omega (arith, x.within, y.within))
+rank_same Lowest x y e = same_extreme x y (omega (arith, x.within, y.within)) (omega (arith, x.within, y.within))
+rank_same Highest x y e = same_extreme x y (omega (arith, x.within, y.within)) (omega (arith, x.within, y.within))
 
 rank_before : (o : Choice) (x y : Extreme) → goes_before o x y ≡ nat_lt (rank o x) (rank o y)
-rank_before Choice.Lowest x y = let p = x.within in let q = y.within in grind (arith, nat_tests)
-rank_before Choice.Highest x y = let p = x.within in let q = y.within in grind (arith, nat_tests)
+rank_before Lowest x y = let p = x.within in let q = y.within in grind (arith, nat_tests)
+rank_before Highest x y = let p = x.within in let q = y.within in grind (arith, nat_tests)
 
 rank_chosen : (o : Choice) (x y : Extreme) → rank o (chosen o x y) ≡ min (rank o x) (rank o y)
 rank_chosen o x y =
@@ -92,11 +92,11 @@ only w v e =
     (cases_Bool (w.bits == 0))
 
 -- the laws of a quantity whose values are extremes
-pub extreme_laws : {F : Type 0} (o : Choice) (given : ℕ → Reading → Option Extreme) (figures : Option Extreme → F) → Laws (Option Extreme) Word F (record { given = given; nothing = None; join = extreme_join o; word = extreme_word; back = extreme_back; figures = figures })
-extreme_laws o given figures =
+pub extreme_laws : (m : Measuring) → Laws (Option Extreme) Word SizeFigures (extreme_sense m)
+extreme_laws m =
     record {
-      commutative = commutative o;
-      associative = associative o;
+      commutative = commutative m.choice;
+      associative = associative m.choice;
       unit = λ _. refl;
       returned = returned;
       only = only;

@@ -51,6 +51,8 @@ impl Quantity for Flags {
 
     const LETTER: char = 'F';
 
+    ghost LETTER = { 70 };
+
     ghost sense = { flags_sense };
 
     ghost laws = { sets_laws };

@@ -37,6 +37,8 @@ impl Quantity for Load {
 
     const LETTER: char = 'L';
 
+    ghost LETTER = { 76 };
+
     ghost sense = { load_sense };
 
     ghost laws = { load_laws };
