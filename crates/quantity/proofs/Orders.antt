@@ -1,5 +1,5 @@
 -- Joins: one more value, and values in another order.
-use Rattle.std.proofs.Common.{◌≡◌, ℕ, ◌+◌, ◌<◌, List, [], ◌∷◌, ◌++◌, length, get_or, drop, sym, refl, ap, ◌∙◌, add-one, drop-cons}
+use Rattle.std.proofs.Common.{◌≡◌, ℕ, ◌+◌, List, [], ◌∷◌, ◌++◌, sym, refl, ap, ◌∙◌}
 use Rattle.std.specs.List.{fold, enumerate_from}
 use Rattle.quantity.specs.declared.readings.Reading.{Reading}
 use Rattle.quantity.specs.Counts.{takings, AnyOrder}

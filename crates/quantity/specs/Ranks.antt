@@ -5,7 +5,6 @@ use Rattle.std.proofs.lemmas.Bool.{cond-false, cond_both, ne_eqb, le-ltb, le-leb
 use Rattle.std.proofs.lemmas.Bool.Decides.{nat_tests}
 use Rattle.quantity.specs.declared.extremes.Extreme.{Extreme}
 use Rattle.quantity.specs.declared.words.Word.{Word}
-use Rattle.quantity.specs.declared.readings.Reading.{Reading}
 use Rattle.quantity.specs.Senses.{Laws}
 use Rattle.quantity.specs.declared.extremes.SizeFigures.{SizeFigures}
 use Rattle.quantity.specs.Extremes.{Choice, Lowest, Highest, Measuring, extreme_sense, size_in_house, extreme, goes_before, chosen, extreme_join, extreme_bits, extreme_word, found, extreme_back}

@@ -13,6 +13,7 @@ pub struct Gap;
 
 // What is measured in a house. The row is asked for the house whose size wins, and of equal sizes for the lower house.
 pub trait Measure {
+    // The letter by which the row is asked for it.
     const LETTER: char;
 
     ghost LETTER: { ℕ };
