@@ -1,5 +1,6 @@
 -- Joins: one more value, and values in another order.
-use Rattle.std.proofs.Common.{◌≡◌, ℕ, ◌+◌, ◌<◌, List, [], ◌∷◌, ◌++◌, length, get_or, drop, sym, refl, ap, ◌∙◌, add-one, drop-cons}
+use Rattle.std.proofs.Common.{◌≡◌, ℕ, ◌+◌, List, [], ◌∷◌, ◌++◌, sym, refl, ap, ◌∙◌}
+use Rattle.std.specs.List.{fold, enumerate_from}
 use Rattle.quantity.specs.declared.readings.Reading.{Reading}
 use Rattle.quantity.specs.Counts.{takings, AnyOrder}
 use Rattle.quantity.specs.Joins.{Taking, join_of}
@@ -21,13 +22,11 @@ module _ {V W F : Type 0} (q : Sense V W F) (laws : Laws V W F q) where
       ap (q.join (q.given b.house b.reading)) (from_middle bs t after)
       ∙ swapped (q.given b.house b.reading) (q.given t.house t.reading) (join_of q (bs ++ after))
 
-  -- the value of the next house joins what is held, or what is left
-  pub next_house : (rs : List Reading) (h : ℕ) (r : Reading) (x y : V) → h < length rs → y ≡ q.join x (q.given h (get_or rs h r)) → q.join y (join_of q (takings (h + 1) (drop (h + 1) rs))) ≡ q.join x (join_of q (takings h (drop h rs)))
-  next_house rs h r x y lt e =
-      ap (λ z. q.join z (join_of q (takings (h + 1) (drop (h + 1) rs)))) e
-      ∙ (laws.associative x (q.given h (get_or rs h r)) (join_of q (takings (h + 1) (drop (h + 1) rs)))
-      ∙ (ap (λ k. q.join x (q.join (q.given h (get_or rs h r)) (join_of q (takings (h + 1) (drop k rs))))) (add-one h)
-      ∙ ap (λ ys. q.join x (join_of q (takings h ys))) (sym (drop-cons rs h r lt))))
+  -- readings joined one by one to a value, from house h on
+  pub joined_on : (rs : List Reading) (h : ℕ) (x : V) → fold (λ y t. q.join y (q.given t.0 t.1)) x (enumerate_from h rs) ≡ q.join x (join_of q (takings h rs))
+  joined_on [] h x = sym (unit_right x)
+  joined_on (r ∷ rs) h x =
+      joined_on rs (h + 1) (q.join x (q.given h r)) ∙ laws.associative x (q.given h r) (join_of q (takings (h + 1) rs))
 
   pub any_order : AnyOrder q
   any_order [] us e = ap (join_of q) e

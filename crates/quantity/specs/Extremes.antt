@@ -1,13 +1,14 @@
 -- The house with the lowest or the highest size: what the coldest coil and the widest gap share.
 use Rattle.std.specs.Prelude.{ℕ, ◌+◌, ◌-◌, ◌*◌, ◌/◌, ◌%◌, ◌^◌, ◌<◌, Bool, cond, ◌&&◌, ◌||◌, ℤ, Some, None, Option, ◌==◌, nat_le, nat_lt}
+use Rattle.std.specs.Option.{option_map}
 use Rattle.std.proofs.Common.{arith, lit<}
 use Rattle.std.proofs.lemmas.Bool.{leb-true, ltb-true, and_parts}
-use Rattle.quantity.specs.declared.choices.Choice.{Choice}
-use Rattle.quantity.specs.declared.choices.SizeFigures.{SizeFigures}
+use Rattle.quantity.specs.declared.extremes.SizeFigures.{SizeFigures}
 use Rattle.quantity.specs.declared.extremes.Extreme.{Extreme}
 use Rattle.quantity.specs.declared.readings.Reading.{Reading}
 use Rattle.quantity.specs.declared.words.Word.{Word}
 use Rattle.quantity.specs.Readings.{usable}
+use Rattle.quantity.specs.Senses.{Sense}
 use Rattle.quantity.specs.Tested.{if_so}
 
 -- sizes are 0 to 1,500, and houses 0 to 47
@@ -24,6 +25,20 @@ extreme size house =
       within = (leb-true size 1500 (and_parts _ _ e).0, ltb-true house 48 (and_parts _ _ e).1);
     })
 
+-- which of two sizes wins
+pub data Choice : Type 0 where
+  Lowest : Choice
+  Highest : Choice
+
+-- what is measured in a house
+pub record Measuring : Type 0 where
+  -- the size of a reading; none where it has none
+  pub size : Reading → Option ℕ
+  -- which of two sizes wins
+  pub choice : Choice
+  -- the size as it is answered
+  pub scale : ℕ → ℤ
+
 -- the value that a house gives whose reading has that size: none where it has none or cannot be used
 abbrev pub extreme_given : ℕ → Reading → Option ℕ → Option Extreme
 extreme_given h r None = None
@@ -31,8 +46,8 @@ extreme_given h r (Some size) = cond (usable h r) (extreme size h) None
 
 -- the first size wins against the second
 abbrev pub wins : Choice → ℕ → ℕ → Bool
-wins Choice.Lowest a b = nat_lt a b
-wins Choice.Highest a b = nat_lt b a
+wins Lowest a b = nat_lt a b
+wins Highest a b = nat_lt b a
 
 -- the first goes before the second: its size wins, or it is the lower house of two with equal sizes
 abbrev pub goes_before : Choice → Extreme → Extreme → Bool
@@ -75,5 +90,16 @@ extreme_back w =
 
 -- size and house, both absent for none; the size is answered on that scale
 abbrev pub size_figures : (ℕ → ℤ) → Option Extreme → SizeFigures
-size_figures scale None = SizeFigures.Absent
-size_figures scale (Some x) = SizeFigures.Found (scale x.size) x.house
+size_figures scale v = record { found = option_map (λ x. (scale x.size, x.house)) v }
+
+-- the house whose size wins, as a quantity
+abbrev pub extreme_sense : Measuring → Sense (Option Extreme) Word SizeFigures
+extreme_sense m =
+    record {
+      given = λ h r. extreme_given h r (m.size r);
+      nothing = None;
+      join = extreme_join m.choice;
+      word = extreme_word;
+      back = extreme_back;
+      figures = size_figures m.scale;
+    }

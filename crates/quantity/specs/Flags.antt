@@ -7,7 +7,7 @@ use Rattle.std.specs.Int.Count.{ones}
 use Rattle.std.proofs.lemmas.Bool.{ltb-true, and_parts}
 use Rattle.quantity.specs.declared.flags.FlagFigures.{FlagFigures}
 use Rattle.quantity.specs.declared.readings.Reading.{Reading}
-use Rattle.quantity.specs.declared.sets.Sets.{Sets}
+use Rattle.quantity.specs.declared.flags.Sets.{Sets}
 use Rattle.quantity.specs.declared.words.Word.{Word}
 use Rattle.quantity.specs.Readings.{usable}
 use Rattle.quantity.specs.Senses.{Sense}

@@ -13,4 +13,3 @@ pub mod Ranks
 pub mod Decided
 pub mod Same
 pub mod Unions
-pub mod Bitwise

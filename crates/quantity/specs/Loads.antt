@@ -2,7 +2,7 @@
 use Rattle.std.specs.Prelude.{ℕ, ◌+◌, ◌*◌, ◌/◌, ◌%◌, ◌^◌, ◌<◌, cond, Some, None, ◌==◌}
 use Rattle.std.proofs.Common.{mod-lt, arith, lit<}
 use Rattle.quantity.specs.declared.load.LoadFigures.{LoadFigures}
-use Rattle.quantity.specs.declared.totals.Total.{Total}
+use Rattle.quantity.specs.declared.load.Total.{Total}
 use Rattle.quantity.specs.declared.words.Word.{Word}
 use Rattle.quantity.specs.Readings.{usable}
 use Rattle.quantity.specs.Senses.{Sense}

@@ -1,28 +1,27 @@
 -- The laws of an extreme. Every size and house has a rank, lower for what goes before, so that the join is the least.
-use Rattle.std.specs.Prelude.{◌≡◌, ℕ, ◌+◌, ◌-◌, ◌*◌, ◌/◌, ◌%◌, ◌^◌, ◌≤◌, min, true, Some, None, Option, ◌==◌, nat_lt, refl}
-use Rattle.std.proofs.Common.{⊎_elim, sym, ◌∙◌, ap, arith}
-use Rattle.std.proofs.lemmas.Bool.{cases_Bool, cond-true, cond-false, cond_both, ne_eqb, le-ltb, le-leb, lt-ltb, and_from, eqb-true, ltb-true, ltb-false}
+use Rattle.std.specs.Prelude.{◌≡◌, ℕ, ◌+◌, ◌-◌, ◌*◌, ◌/◌, ◌%◌, ◌^◌, ◌≤◌, min, Bool, true, false, cond, Some, None, Option, ◌==◌, nat_lt, refl}
+use Rattle.std.proofs.Common.{sym, ◌∙◌, ap, arith}
+use Rattle.std.proofs.lemmas.Bool.{cond-false, cond_both, ne_eqb, le-ltb, le-leb, lt-ltb, and_from, eqb-true, ltb-true, ltb-false}
 use Rattle.std.proofs.lemmas.Bool.Decides.{nat_tests}
-use Rattle.quantity.specs.declared.choices.Choice.{Choice}
 use Rattle.quantity.specs.declared.extremes.Extreme.{Extreme}
 use Rattle.quantity.specs.declared.words.Word.{Word}
-use Rattle.quantity.specs.declared.readings.Reading.{Reading}
 use Rattle.quantity.specs.Senses.{Laws}
-use Rattle.quantity.specs.Extremes.{size_in_house, extreme, goes_before, chosen, extreme_join, extreme_bits, extreme_word, found, extreme_back}
-use Rattle.quantity.specs.Decided.{none_some, some_same, if_so_true, from_if_so}
+use Rattle.quantity.specs.declared.extremes.SizeFigures.{SizeFigures}
+use Rattle.quantity.specs.Extremes.{Choice, Lowest, Highest, Measuring, extreme_sense, size_in_house, extreme, goes_before, chosen, extreme_join, extreme_bits, extreme_word, found, extreme_back}
+use Rattle.quantity.specs.Decided.{if_so_true, from_if_so}
 use Rattle.quantity.specs.Same.{same_word, same_extreme}
 
 abbrev rank : Choice → Extreme → ℕ
-rank Choice.Lowest x = x.size * 48 + x.house
-rank Choice.Highest x = (1500 - x.size) * 48 + x.house
+rank Lowest x = x.size * 48 + x.house
+rank Highest x = (1500 - x.size) * 48 + x.house
 
 rank_same : (o : Choice) (x y : Extreme) → rank o x ≡ rank o y → x ≡ y
-rank_same Choice.Lowest x y e = same_extreme x y (omega (arith, x.within, y.within)) (omega (arith, x.within, y.within))
-rank_same Choice.Highest x y e = same_extreme x y (omega (arith, x.within, y.within)) (omega (arith, x.within, y.within))
+rank_same Lowest x y e = same_extreme x y (omega (arith, x.within, y.within)) (omega (arith, x.within, y.within))
+rank_same Highest x y e = same_extreme x y (omega (arith, x.within, y.within)) (omega (arith, x.within, y.within))
 
 rank_before : (o : Choice) (x y : Extreme) → goes_before o x y ≡ nat_lt (rank o x) (rank o y)
-rank_before Choice.Lowest x y = let p = x.within in let q = y.within in grind (arith, nat_tests)
-rank_before Choice.Highest x y = let p = x.within in let q = y.within in grind (arith, nat_tests)
+rank_before Lowest x y = let p = x.within in let q = y.within in grind (arith, nat_tests)
+rank_before Highest x y = let p = x.within in let q = y.within in grind (arith, nat_tests)
 
 rank_chosen : (o : Choice) (x y : Extreme) → rank o (chosen o x y) ≡ min (rank o x) (rank o y)
 rank_chosen o x y =
@@ -66,8 +65,8 @@ returned (Some x) =
     ∙ ap found (sym (extreme_is x (size_of (extreme_bits (Some x))) (house_of (extreme_bits (Some x))) (omega (arith, x.within)) (omega (arith, x.within)))))
 
 from_found : (o v : Option Extreme) → found o ≡ Some v → (x : Extreme) × (o ≡ Some x) × (v ≡ Some x)
-from_found None v e = absurd (none_some e)
-from_found (Some x) v e = (x, refl, sym (some_same e))
+from_found None v e = absurd cc
+from_found (Some x) v e = (x, refl, cc)
 
 from_extreme : (size house : ℕ) (x : Extreme) → extreme size house ≡ Some x → (x.size ≡ size) × (x.house ≡ house)
 from_extreme size house x e =
@@ -80,23 +79,20 @@ only_high w v high e =
     let q = from_extreme (size_of w.bits) (house_of w.bits) p.0 p.1 in
     same_word _ _ (omega (arith, q.0, q.1, ap extreme_bits p.2))
 
+only_by : (zero low : Bool) (w : Word) (v : Option Extreme) → (w.bits == 0) ≡ zero → nat_lt w.bits (2 ^ 32) ≡ low → cond zero (Some None) (cond low None (found (extreme (size_of w.bits) (house_of w.bits)))) ≡ Some v → w ≡ extreme_word v
+only_by true low w v z l e = let none : None ≡ v = cc in same_word _ _ (eqb-true w.bits 0 z ∙ ap extreme_bits none)
+only_by false true w v z l e = absurd cc
+only_by false false w v z l e = only_high w v (ltb-false w.bits (2 ^ 32) l) e
+
 only : (w : Word) (v : Option Extreme) → extreme_back w ≡ Some v → w ≡ extreme_word v
-only w v e =
-    ⊎_elim
-    (λ zero. let none : None ≡ v = some_same (sym (cond-true _ _ _ zero) ∙ e) in same_word _ _ (eqb-true w.bits 0 zero ∙ ap extreme_bits none))
-    (λ more.
-    ⊎_elim
-    (λ low. absurd (none_some (sym (cond-false _ _ _ more ∙ cond-true _ _ _ low) ∙ e)))
-    (λ high. only_high w v (ltb-false w.bits (2 ^ 32) high) (sym (cond-false _ _ _ more ∙ cond-false _ _ _ high) ∙ e))
-    (cases_Bool (nat_lt w.bits (2 ^ 32))))
-    (cases_Bool (w.bits == 0))
+only w v e = only_by (w.bits == 0) (nat_lt w.bits (2 ^ 32)) w v refl refl e
 
 -- the laws of a quantity whose values are extremes
-pub extreme_laws : {F : Type 0} (o : Choice) (given : ℕ → Reading → Option Extreme) (figures : Option Extreme → F) → Laws (Option Extreme) Word F (record { given = given; nothing = None; join = extreme_join o; word = extreme_word; back = extreme_back; figures = figures })
-extreme_laws o given figures =
+pub extreme_laws : (m : Measuring) → Laws (Option Extreme) Word SizeFigures (extreme_sense m)
+extreme_laws m =
     record {
-      commutative = commutative o;
-      associative = associative o;
+      commutative = commutative m.choice;
+      associative = associative m.choice;
       unit = λ _. refl;
       returned = returned;
       only = only;

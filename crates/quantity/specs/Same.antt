@@ -3,8 +3,8 @@ use Rattle.std.specs.Prelude.{◌≡◌, ◌^◌, ◌<◌, ◌≤◌}
 use mathlib.Core.HLevel.{is_prop→PathP}
 use denote.Struct.Props.{props}
 use Rattle.quantity.specs.declared.extremes.Extreme.{Extreme}
-use Rattle.quantity.specs.declared.sets.Sets.{Sets}
-use Rattle.quantity.specs.declared.totals.Total.{Total}
+use Rattle.quantity.specs.declared.flags.Sets.{Sets}
+use Rattle.quantity.specs.declared.load.Total.{Total}
 use Rattle.quantity.specs.declared.words.Word.{Word}
 
 pub same_word : (x y : Word) → x.bits ≡ y.bits → x ≡ y

@@ -2,7 +2,7 @@
 use Rattle.std.specs.Prelude.{◌≡◌, ◌/◌, ◌%◌, ◌^◌, Some}
 use Rattle.std.proofs.Common.{ap, arith}
 use Rattle.quantity.specs.declared.load.LoadFigures.{LoadFigures}
-use Rattle.quantity.specs.declared.totals.Total.{Total}
+use Rattle.quantity.specs.declared.load.Total.{Total}
 use Rattle.quantity.specs.declared.words.Word.{Word}
 use Rattle.quantity.specs.Loads.{load_sense, total}
 use Rattle.quantity.specs.Same.{same_word, same_total}

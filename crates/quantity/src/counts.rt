@@ -12,7 +12,7 @@ pub fn straight_count<Q: Quantity>(readings: &[Reading]) -> Result<Q::Figures, F
     ensures order { AnyOrder Q.Quantity.sense }
 {
     check(readings)?;
-    Ok(figures_of::<Q>(readings))
+    Ok(Q::figures(join_all::<Q>(readings)))
 }
 
 // Refuses more readings than a row has houses, then the first that is beyond limits.
@@ -32,35 +32,17 @@ fn check(readings: &[Reading]) -> Result<(), Fault>
 fn first_beyond(readings: &[Reading]) -> Option<usize>
     ensures { MatchOption result (Within readings.now) (FirstBeyond readings.now) }
 {
-    for (i, reading) in readings.iter().enumerate() {
-        if !reading.in_limits() {
-            return Some(i);
-        }
-    }
-    None
-}
-
-// The final figures of the join of all readings.
-fn figures_of<Q: Quantity>(readings: &[Reading]) -> Q::Figures
-    ensures { result ≡ Q.Quantity.sense.figures (join_of Q.Quantity.sense (takings 0 readings.now)) }
-{
-    Q::figures(join_all::<Q>(readings))
+    readings.iter().position(|reading| !reading.in_limits())
 }
 
 // The join of the values that each house and its reading give.
 fn join_all<Q: Quantity>(readings: &[Reading]) -> Q::Value
     ensures { result ≡ join_of Q.Quantity.sense (takings 0 readings.now) }
 {
-    let mut holding = Q::nothing();
-    for (house, reading) in readings.iter().enumerate() {
-        holding = joined_by::<Q>(holding, house, *reading);
-    }
-    holding
-}
-
-// What is held, joined by the value that a house and its reading give.
-fn joined_by<Q: Quantity>(holding: Q::Value, house: usize, reading: Reading) -> Q::Value
-    ensures { result ≡ Q.Quantity.sense.join holding (Q.Quantity.sense.given house reading) }
-{
-    Q::join(holding, Q::value(house, reading))
+    readings
+        .iter()
+        .enumerate()
+        .fold(Q::nothing(), |holding, (house, reading)| {
+            Q::join(holding, Q::value(house, *reading))
+        })
 }

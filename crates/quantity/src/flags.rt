@@ -1,16 +1,23 @@
-ghost use Rattle.std.specs.Prelude.{◌≡◌, Some, bit_and, bit_or};
-ghost use Rattle.quantity.specs.Flags.{two_sets, sets, sets_bits, flags_sense};
-ghost use Rattle.quantity.specs.Shown.{flags_shown};
-ghost use Rattle.quantity.specs.Unions.{sets_laws};
+ghost use Rattle.std.specs.Prelude.{◌≡◌, ◌^◌, ◌<◌};
 
 use crate::quantities::Quantity;
 use crate::readings::Reading;
-use crate::sets::Sets;
 use crate::words::Word;
 use std::fmt;
 
+// What the lowest bit of any counts in a word.
+const ANY_PLACE: u64 = 1 << 16;
+
 // The flags of the row: the bits set in some house and in every house.
 pub struct Flags;
+
+// The flag bits that some house has set, and those that every house has set.
+#[derive(Clone, Copy)]
+pub struct Sets {
+    pub any: u16,
+    pub all: u16,
+    ghost fits: { (any < 2 ^ 16) × (all < 2 ^ 16) },
+}
 
 // The bits set in some house, those set in every house, and the number of ones in the first.
 #[derive(Clone, Copy)]
@@ -20,63 +27,31 @@ pub struct FlagFigures {
     pub ones: u32,
 }
 
-// What the lowest bit of any counts in a word.
-const ANY_PLACE: u64 = 65_536;
-
 impl Sets {
+    ghost use Rattle.quantity.specs.Flags.{sets};
+
     // Those two sets of bits; none where one of them has more than 16.
-    pub(crate) fn new(any: u64, all: u64) -> Option<Sets>
+    fn new(any: u64, all: u64) -> Option<Sets>
         ensures { result ≡ sets any all }
     {
-        if are_sets(any, all) {
-            Some(Sets {
-                any: any as u16,
-                all: all as u16,
-            })
-        } else {
-            None
-        }
-    }
-}
-
-fn are_sets(any: u64, all: u64) -> bool
-    ensures { result ≡ two_sets any all }
-{
-    any < ANY_PLACE && all < ANY_PLACE
-}
-
-fn none() -> Sets
-    ensures { (result.any ≡ 0) × (result.all ≡ 65535) }
-{
-    Sets {
-        any: 0,
-        all: 65_535,
-    }
-}
-
-fn united(a: Sets, b: Sets) -> Sets
-    ensures { (result.any ≡ bit_or a.any b.any) × (result.all ≡ bit_and a.all b.all) }
-{
-    Sets {
-        any: a.any | b.any,
-        all: a.all & b.all,
-    }
-}
-
-fn packed(value: Sets) -> Word
-    ensures { result.bits ≡ sets_bits value }
-{
-    Word {
-        bits: u64::from(value.any) * ANY_PLACE + u64::from(value.all),
+        Some(Sets {
+            any: u16::try_from(any).ok()?,
+            all: u16::try_from(all).ok()?,
+        })
     }
 }
 
 impl Quantity for Flags {
+    ghost use Rattle.quantity.specs.Flags.{flags_sense};
+    ghost use Rattle.quantity.specs.Unions.{sets_laws};
+
     type Value = Sets;
 
     type Figures = FlagFigures;
 
     const LETTER: char = 'F';
+
+    ghost LETTER = { 70 };
 
     ghost sense = { flags_sense };
 
@@ -84,24 +59,33 @@ impl Quantity for Flags {
 
     fn value(house: usize, reading: Reading) -> Sets {
         if !reading.usable(house) {
-            return none();
+            return Flags::nothing();
         }
-        match Sets::new(u64::from(reading.flags), u64::from(reading.flags)) {
-            None => none(),
-            Some(sets) => sets,
+        let flags = reading.flags as u16;
+        Sets {
+            any: flags,
+            all: flags,
         }
     }
 
     fn nothing() -> Sets {
-        none()
+        Sets {
+            any: 0,
+            all: u16::MAX,
+        }
     }
 
     fn join(a: Sets, b: Sets) -> Sets {
-        united(a, b)
+        Sets {
+            any: a.any | b.any,
+            all: a.all & b.all,
+        }
     }
 
     fn word(value: Sets) -> Word {
-        packed(value)
+        Word {
+            bits: u64::from(value.any) * ANY_PLACE + u64::from(value.all),
+        }
     }
 
     fn back(word: Word) -> Option<Sets> {
@@ -118,12 +102,13 @@ impl Quantity for Flags {
 }
 
 impl fmt::Display for FlagFigures {
+    ghost use Rattle.std.specs.Prelude.{Some};
+    ghost use Rattle.quantity.specs.Shown.{flags_shown};
+
     ghost output = { λ v. Some (flags_shown v) };
 
     fn fmt<W: fmt::Write>(&self, f: &mut fmt::Formatter<W>) -> fmt::Result {
-        let any = self.any;
-        let all = self.all;
-        let ones = self.ones;
+        let FlagFigures { any, all, ones } = *self;
         write!(f, "{any} {all} {ones}")
     }
 }

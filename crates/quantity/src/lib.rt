@@ -2,29 +2,21 @@
 #![tactic(auto)]
 
 mod asked;
-mod choices;
-mod coldest;
 mod counts;
 mod extremes;
 mod flags;
-mod gap;
 mod load;
 mod quantities;
 mod readings;
-mod sets;
-mod totals;
+mod sizes;
 mod words;
 
 pub use asked::letters;
-pub use choices::SizeFigures;
-pub use coldest::Coldest;
 pub use counts::straight_count;
-pub use extremes::Extreme;
-pub use flags::{FlagFigures, Flags};
-pub use gap::Gap;
-pub use load::{Load, LoadFigures};
+pub use extremes::{Extreme, SizeFigures};
+pub use flags::{FlagFigures, Flags, Sets};
+pub use load::{Load, LoadFigures, Total};
 pub use quantities::Quantity;
 pub use readings::Reading;
-pub use sets::Sets;
-pub use totals::Total;
+pub use sizes::{Coldest, Gap, Measure};
 pub use words::Word;

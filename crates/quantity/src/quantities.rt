@@ -1,4 +1,4 @@
-ghost use Rattle.std.specs.Prelude.{◌≡◌};
+ghost use Rattle.std.specs.Prelude.{◌≡◌, ℕ};
 ghost use Rattle.quantity.specs.declared.words.Word.{Word};
 ghost use Rattle.quantity.specs.Senses.{Sense, Laws};
 
@@ -17,6 +17,8 @@ pub trait Quantity {
 
     // The letter by which the quantity is asked for.
     const LETTER: char;
+
+    ghost LETTER: { ℕ };
 
     ghost sense: { Sense Self.Value Word Self.Figures };
 

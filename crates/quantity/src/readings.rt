@@ -2,7 +2,7 @@ ghost use Rattle.std.specs.Prelude.{◌≡◌};
 ghost use Rattle.quantity.specs.Readings.{blank_reading, temperate, clamp_temperate, in_limits, usable, faulty, coil_rule, gap_rule, coil, gap};
 
 // What a house measures. Temperatures are in tenths of a degree; a house without a clamp has no clamp temperature.
-#[derive(Clone, Copy, PartialEq, Eq, Debug)]
+#[derive(Clone, Copy, PartialEq, Eq, Debug, Default)]
 pub struct Reading {
     pub probe: i32,
     pub clamp: Option<i32>,
@@ -28,12 +28,7 @@ impl Reading {
     pub fn blank() -> Reading
         ensures { result ≡ blank_reading }
     {
-        Reading {
-            probe: 0,
-            clamp: None,
-            watts: 0,
-            flags: 0,
-        }
+        Reading::default()
     }
 
     // Whether every part of the reading is in its limits.
@@ -41,7 +36,7 @@ impl Reading {
         ensures { result ≡ in_limits self }
     {
         is_temperate(self.probe)
-            && is_clamp_temperate(self.clamp)
+            && self.clamp.is_none_or(is_temperate)
             && self.watts <= MOST_WATTS
             && self.flags <= MOST_FLAGS
     }
@@ -78,16 +73,7 @@ impl Reading {
 fn is_temperate(temperature: i32) -> bool
     ensures { result ≡ temperate temperature }
 {
-    LOWEST <= temperature && temperature <= HIGHEST
-}
-
-fn is_clamp_temperate(clamp: Option<i32>) -> bool
-    ensures { result ≡ clamp_temperate clamp }
-{
-    match clamp {
-        None => true,
-        Some(temperature) => is_temperate(temperature),
-    }
+    (LOWEST..=HIGHEST).contains(&temperature)
 }
 
 fn coil_rule(probe: i32, clamp: Option<i32>, fault: bool) -> i32
@@ -103,8 +89,5 @@ fn coil_rule(probe: i32, clamp: Option<i32>, fault: bool) -> i32
 fn gap_rule(probe: i32, clamp: Option<i32>) -> Option<u32>
     ensures { result ≡ gap_rule probe clamp }
 {
-    match clamp {
-        None => None,
-        Some(clamp) => Some(probe.abs_diff(clamp)),
-    }
+    Some(probe.abs_diff(clamp?))
 }

@@ -6,7 +6,7 @@ use Rattle.fault.specs.declared.causes.Cause.TheVariants.{NoHouse, Unfit, WrongR
 use Rattle.fault.specs.declared.faults.Fault.{Fault}
 use Rattle.fault.specs.Layers.{fault_at}
 use Rattle.quantity.specs.declared.readings.Reading.{Reading}
-use Rattle.quantity.specs.declared.sets.Sets.{Sets}
+use Rattle.quantity.specs.declared.flags.Sets.{Sets}
 use Rattle.quantity.specs.declared.words.Word.{Word}
 use Rattle.quantity.specs.Counts.{Counted, Refused, Within}
 use Rattle.quantity.specs.Flags.{flags_sense, no_sets, or_no_sets, sets}

@@ -6,10 +6,10 @@ use Rattle.fault.specs.Layers.{fault_at}
 use Rattle.plan.specs.declared.plans.Plan.{Plan}
 use Rattle.plan.specs.Files.{file_of}
 use Rattle.plan.specs.Readers.{ReadPlan}
-use Rattle.quantity.specs.declared.choices.SizeFigures.{SizeFigures}
+use Rattle.quantity.specs.declared.extremes.SizeFigures.{SizeFigures}
 use Rattle.quantity.specs.declared.extremes.Extreme.{Extreme}
 use Rattle.quantity.specs.declared.readings.Reading.{Reading}
-use Rattle.quantity.specs.declared.sets.Sets.{Sets}
+use Rattle.quantity.specs.declared.flags.Sets.{Sets}
 use Rattle.quantity.specs.declared.words.Word.{Word}
 use Rattle.quantity.specs.Counts.{Counted}
 use Rattle.quantity.specs.Flags.{flags_sense}
@@ -108,7 +108,7 @@ LoadWraps = load_sense.join (total 4294967295 1) (total 1 1) ≡ total 0 2
 abbrev pub ColdestTie : Type 0
 ColdestTie =
     (coldest_sense.join (twenty_below 3) (twenty_below 1) ≡ twenty_below 1)
-    × (coldest_sense.figures (twenty_below 1) ≡ SizeFigures.Found (neg_ℤ (pos 20)) 1)
+    × (coldest_sense.figures (twenty_below 1) ≡ record { found = Some (neg_ℤ (pos 20), 1) })
     × ((coldest_sense.word (twenty_below 1)).bits ≡ 4295115777)
 
 -- flags 8 and 12, in whichever two houses: 12 in some house, 8 in every house, 2 ones, and the word is 786,440

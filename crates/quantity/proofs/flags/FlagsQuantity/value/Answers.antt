@@ -1,8 +1,8 @@
-use Rattle.std.proofs.Common.{sym, ◌∙◌}
-use Rattle.std.proofs.lemmas.Bool.{cond-false}
-use Rattle.quantity.specs.Same.{same_sets}
+use Rattle.std.proofs.Common.{refl, sym, ap, ◌∙◌}
+use Rattle.std.proofs.lemmas.Bool.{cond-true}
+use Rattle.quantity.specs.Flags.{or_no_sets}
+use Rattle.quantity.specs.Unions.{sets_is}
 use Rattle.quantity.proofs.flags.FlagsQuantity.value.Goals as goal
 
-pub returns-then-not-usable : goal.returns-then-not-usable
-returns-then-not-usable c =
-    same_sets _ _ c.none.ensures.0 c.none.ensures.1 ∙ sym (cond-false _ _ _ (sym c.if-not-usable.ensures))
+pub returns : goal.returns
+returns c = ap or_no_sets (sets_is _ _ _ refl refl) ∙ sym (cond-true _ _ _ (sym c.if-not-usable.ensures))

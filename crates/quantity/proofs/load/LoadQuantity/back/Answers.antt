@@ -3,4 +3,4 @@ use Rattle.quantity.specs.Same.{same_total}
 use Rattle.quantity.proofs.load.LoadQuantity.back.Goals as goal
 
 pub returns : goal.returns
-returns c = ap Some (same_total _ _ (omega (arith, c.unpacked.ensures.0, c.args.word.fits)) (omega (arith, c.unpacked.ensures.1, c.args.word.fits)))
+returns c = ap Some (same_total _ _ (omega arith) (omega arith))
