@@ -1,18 +1,23 @@
--- The two makes of carrier: which message of a line each of them takes.
+-- Which message of a line a make of carrier takes.
 use Rattle.std.specs.Prelude.{◌≡◌, Bool, true, false, cond, ◌≢◌, List, [], ◌∷◌, ◌++◌, Some, None, Option}
 use Rattle.carrier.specs.declared.messages.Kind.{Kind}
 use Rattle.carrier.specs.declared.messages.Message.{Message}
 use Rattle.carrier.specs.declared.messages.Message.TheVariants.{Request, Response}
-use Rattle.carrier.specs.declared.makes.Make.{Make}
-use Rattle.carrier.specs.declared.makes.Make.TheVariants.{Wire, Radio}
 use Rattle.carrier.specs.Messages.{kind_of}
 
--- of two messages on a line, whether the one put earlier is taken first
-abbrev pub earlier_first : {W : Type 0} → Make → Message W → Message W → Bool
-earlier_first Wire x y = true
-earlier_first Radio Request y = false
-earlier_first Radio (Response w) Request = true
-earlier_first Radio (Response w) (Response v) = false
+-- a make's order: of two messages on a line, whether the one put earlier is taken first
+abbrev pub Order : Type 0 → Type 0
+Order W = Message W → Message W → Bool
+
+-- the wire's order
+abbrev pub wire_order : {W : Type 0} → Order W
+wire_order x y = true
+
+-- the radio's order
+abbrev pub radio_order : {W : Type 0} → Order W
+radio_order Request y = false
+radio_order (Response w) Request = true
+radio_order (Response w) (Response v) = false
 
 -- a message taken off a line, and the messages that remain
 pub record Taken (W : Type 0) : Type 0 where
@@ -20,19 +25,19 @@ pub record Taken (W : Type 0) : Type 0 where
   pub rest : List (Message W)
 
 -- the choice between the oldest message of a line and what would be taken of the later ones
-abbrev pub first_of : {W : Type 0} → Make → Message W → List (Message W) → Option (Taken W) → Option (Taken W)
-first_of k x xs None = Some record { message = x; rest = xs }
-first_of k x xs (Some t) =
-    cond (earlier_first k x t.message) (Some record { message = x; rest = xs }) (Some record { message = t.message; rest = x ∷ t.rest })
+abbrev pub first_of : {W : Type 0} → Order W → Message W → List (Message W) → Option (Taken W) → Option (Taken W)
+first_of f x xs None = Some record { message = x; rest = xs }
+first_of f x xs (Some t) =
+    cond (f x t.message) (Some record { message = x; rest = xs }) (Some record { message = t.message; rest = x ∷ t.rest })
 
--- what a make takes of the messages on a line, oldest first: none of none
-abbrev pub pick : {W : Type 0} → Make → List (Message W) → Option (Taken W)
-pick k [] = None
-pick k (x ∷ xs) = first_of k x xs (pick k xs)
+-- what is taken by an order of the messages on a line, oldest first: none of none
+abbrev pub pick : {W : Type 0} → Order W → List (Message W) → Option (Taken W)
+pick f [] = None
+pick f (x ∷ xs) = first_of f x xs (pick f xs)
 
--- the pick of a make, which the messages on the line fix: the one that is taken, and the rest
-abbrev pub Picks : {W : Type 0} → Make → List (Message W) → Message W → List (Message W) → Type 0
-Picks k xs x rest = pick k xs ≡ Some record { message = x; rest = rest }
+-- the pick by an order, which the messages on the line fix: the one that is taken, and the rest
+abbrev pub Picks : {W : Type 0} → Order W → List (Message W) → Message W → List (Message W) → Type 0
+Picks f xs x rest = pick f xs ≡ Some record { message = x; rest = rest }
 
 -- THE SAME IN THE SUBJECT'S WORDS
 
@@ -53,8 +58,3 @@ TakesLatest xs x rest =
     × (xs ≡ before ++ (x ∷ after)) × (rest ≡ before ++ after)
     × (kind_of x ≡ Kind.Request → NoneOf Kind.Response rest)
     × NoneOf (kind_of x) after
-
--- what each make takes
-abbrev pub Takes : {W : Type 0} → Make → List (Message W) → Message W → List (Message W) → Type 0
-Takes Wire xs x rest = TakesEarliest xs x rest
-Takes Radio xs x rest = TakesLatest xs x rest

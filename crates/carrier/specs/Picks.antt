@@ -1,13 +1,11 @@
--- What the makes pick.
+-- What is picked, in the subject's words.
 use Rattle.std.specs.Prelude.{◌≡◌, true, false, cond, ◌≢◌, List, [], ◌∷◌, ◌++◌, Some, None, Option, refl}
-use Rattle.std.proofs.Common.{sym, ap, subst, arith}
-use Rattle.carrier.specs.declared.makes.Make.{Make}
-use Rattle.carrier.specs.declared.makes.Make.TheVariants.{Wire, Radio}
+use Rattle.std.proofs.Common.{sym, ap, subst}
 use Rattle.carrier.specs.declared.messages.Kind.{Kind}
 use Rattle.carrier.specs.declared.messages.Message.{Message}
 use Rattle.carrier.specs.declared.messages.Message.TheVariants.{Request, Response}
-use Rattle.carrier.specs.Messages.{kind_number, kind_of}
-use Rattle.carrier.specs.Makes.{Taken, earlier_first, first_of, pick, Picks, TakesEarliest, NoneOf, TakesLatest, Takes}
+use Rattle.carrier.specs.Messages.{kind_of}
+use Rattle.carrier.specs.Makes.{Order, wire_order, radio_order, Taken, first_of, pick, Picks, TakesEarliest, NoneOf, TakesLatest}
 use Rattle.carrier.specs.Meanings.{Without}
 
 -- a relation holds of what is picked
@@ -17,49 +15,47 @@ Holds P xs (Some t) = P xs t.message t.rest
 
 -- it is enough that it holds with one more message in front
 by_front :
-    {W : Type 0} (P : List (Message W) → Message W → List (Message W) → Type 0) (k : Make) →
-    ((x : Message W) (xs : List (Message W)) (t : Option (Taken W)) → Holds P xs t → Holds P (x ∷ xs) (first_of k x xs t)) →
-    (xs : List (Message W)) → Holds P xs (pick k xs)
-by_front P k front [] = refl
-by_front P k front (x ∷ xs) = front x xs (pick k xs) (by_front P k front xs)
+    {W : Type 0} (P : List (Message W) → Message W → List (Message W) → Type 0) (f : Order W) →
+    ((x : Message W) (xs : List (Message W)) (t : Option (Taken W)) → Holds P xs t → Holds P (x ∷ xs) (first_of f x xs t)) →
+    (xs : List (Message W)) → Holds P xs (pick f xs)
+by_front P f front [] = refl
+by_front P f front (x ∷ xs) = front x xs (pick f xs) (by_front P f front xs)
 
 picked :
-    {W : Type 0} (P : List (Message W) → Message W → List (Message W) → Type 0) (k : Make) →
-    ((x : Message W) (xs : List (Message W)) (t : Option (Taken W)) → Holds P xs t → Holds P (x ∷ xs) (first_of k x xs t)) →
-    (xs : List (Message W)) (x : Message W) (rest : List (Message W)) → Picks k xs x rest → P xs x rest
-picked P k front xs x rest e = subst (Holds P xs) e (by_front P k front xs)
+    {W : Type 0} (P : List (Message W) → Message W → List (Message W) → Type 0) (f : Order W) →
+    ((x : Message W) (xs : List (Message W)) (t : Option (Taken W)) → Holds P xs t → Holds P (x ∷ xs) (first_of f x xs t)) →
+    (xs : List (Message W)) (x : Message W) (rest : List (Message W)) → Picks f xs x rest → P xs x rest
+picked P f front xs x rest e = subst (Holds P xs) e (by_front P f front xs)
 
--- ANY MAKE
+-- ANY ORDER
 
 without_front :
-    {W : Type 0} (k : Make) (x : Message W) (xs : List (Message W)) (t : Option (Taken W)) → Holds Without xs t →
-    Holds Without (x ∷ xs) (first_of k x xs t)
-without_front k x xs None h = ([], xs, refl, refl)
-without_front k x xs (Some t) h =
-    elim (earlier_first k x t.message) as (λ b. Holds Without (x ∷ xs) (cond b (Some record { message = x; rest = xs }) (Some record { message = t.message; rest = x ∷ t.rest }))) [
+    {W : Type 0} (f : Order W) (x : Message W) (xs : List (Message W)) (t : Option (Taken W)) → Holds Without xs t →
+    Holds Without (x ∷ xs) (first_of f x xs t)
+without_front f x xs None h = ([], xs, refl, refl)
+without_front f x xs (Some t) h =
+    elim (f x t.message) as (λ b. Holds Without (x ∷ xs) (cond b (Some record { message = x; rest = xs }) (Some record { message = t.message; rest = x ∷ t.rest }))) [
       | true ↦ ([], xs, refl, refl)
       | false ↦ (x ∷ h.0, h.1, ap (λ ys. x ∷ ys) h.2, ap (λ ys. x ∷ ys) h.3)
     ]
 
 pub pick_without :
-    {W : Type 0} (k : Make) (xs : List (Message W)) (x : Message W) (rest : List (Message W)) → Picks k xs x rest → Without xs x rest
-pick_without k = picked Without k (without_front k)
+    {W : Type 0} (f : Order W) (xs : List (Message W)) (x : Message W) (rest : List (Message W)) → Picks f xs x rest → Without xs x rest
+pick_without f = picked Without f (without_front f)
 
 -- THE WIRE
 
 earliest_front :
     {W : Type 0} (x : Message W) (xs : List (Message W)) (t : Option (Taken W)) → Holds TakesEarliest xs t →
-    Holds TakesEarliest (x ∷ xs) (first_of Wire x xs t)
+    Holds TakesEarliest (x ∷ xs) (first_of wire_order x xs t)
 earliest_front x xs None h = refl
 earliest_front x xs (Some t) h = refl
 
+pub wire_takes :
+    {W : Type 0} (xs : List (Message W)) (x : Message W) (rest : List (Message W)) → Picks wire_order xs x rest → TakesEarliest xs x rest
+wire_takes = picked TakesEarliest wire_order earliest_front
+
 -- THE RADIO
-
-request≢response : Kind.Request ≢ Kind.Response
-request≢response e = omega (arith, ap kind_number e)
-
-response≢request : Kind.Response ≢ Kind.Request
-response≢request e = omega (arith, ap kind_number e)
 
 none_between :
     {W : Type 0} (k : Kind) (before after : List (Message W)) (x : Message W) → kind_of x ≢ k → NoneOf k (before ++ after) →
@@ -67,25 +63,15 @@ none_between :
 none_between k [] after x ne h = (ne, h)
 none_between k (y ∷ before) after x ne h = (h.0, none_between k before after x ne h.1)
 
-latest_alone : {W : Type 0} (x : Message W) (xs : List (Message W)) → xs ≡ [] → TakesLatest (x ∷ xs) x xs
-latest_alone x xs e = (
-  [],
-  xs,
-  refl,
-  refl,
-  (λ _. subst (NoneOf Kind.Response) (sym e) tt),
-  subst (NoneOf (kind_of x)) (sym e) tt,
-)
-
 latest_two :
     {W : Type 0} (x y : Message W) (xs rest : List (Message W)) → TakesLatest xs y rest →
-    Holds TakesLatest (x ∷ xs) (first_of Radio x xs (Some record { message = y; rest = rest }))
+    Holds TakesLatest (x ∷ xs) (first_of radio_order x xs (Some record { message = y; rest = rest }))
 latest_two Request y xs rest (before, after, e, f, first, latest) = (
   Request ∷ before,
   after,
   ap (λ ys. Request ∷ ys) e,
   ap (λ ys. Request ∷ ys) f,
-  (λ r. (request≢response, first r)),
+  (λ r. ((λ s. cc), first r)),
   latest,
 )
 latest_two (Response w) Request xs rest (before, after, e, f, first, latest) = (
@@ -93,27 +79,31 @@ latest_two (Response w) Request xs rest (before, after, e, f, first, latest) = (
   xs,
   refl,
   refl,
-  (λ r. absurd (response≢request r)),
-  subst (NoneOf Kind.Response) (sym e) (none_between Kind.Response before after Request request≢response (subst (NoneOf Kind.Response) f (first refl))),
+  (λ r. cc),
+  subst (NoneOf Kind.Response) (sym e) (none_between Kind.Response before after Request (λ s. cc) (subst (NoneOf Kind.Response) f (first refl))),
 )
 latest_two (Response w) (Response v) xs rest (before, after, e, f, first, latest) = (
   Response w ∷ before,
   after,
   ap (λ ys. Response w ∷ ys) e,
   ap (λ ys. Response w ∷ ys) f,
-  (λ r. absurd (response≢request r)),
+  (λ r. cc),
   latest,
 )
 
 latest_front :
     {W : Type 0} (x : Message W) (xs : List (Message W)) (t : Option (Taken W)) → Holds TakesLatest xs t →
-    Holds TakesLatest (x ∷ xs) (first_of Radio x xs t)
-latest_front x xs None h = latest_alone x xs h
+    Holds TakesLatest (x ∷ xs) (first_of radio_order x xs t)
+latest_front x xs None h = (
+  [],
+  xs,
+  refl,
+  refl,
+  (λ _. subst (NoneOf Kind.Response) (sym h) tt),
+  subst (NoneOf (kind_of x)) (sym h) tt,
+)
 latest_front x xs (Some t) h = latest_two x t.message xs t.rest h
 
--- IN THE SUBJECT'S WORDS
-
-pub pick_takes :
-    {W : Type 0} (k : Make) (xs : List (Message W)) (x : Message W) (rest : List (Message W)) → Picks k xs x rest → Takes k xs x rest
-pick_takes Wire = picked TakesEarliest Wire earliest_front
-pick_takes Radio = picked TakesLatest Radio latest_front
+pub radio_takes :
+    {W : Type 0} (xs : List (Message W)) (x : Message W) (rest : List (Message W)) → Picks radio_order xs x rest → TakesLatest xs x rest
+radio_takes = picked TakesLatest radio_order latest_front

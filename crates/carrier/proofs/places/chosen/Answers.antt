@@ -1,12 +1,16 @@
-use Rattle.std.proofs.Common.{◌-◌, length, ap, arith}
-use Rattle.std.proofs.lemmas.List.{drop_all}
-use Rattle.carrier.specs.Places.{held}
-use Rattle.carrier.proofs.Chosen.{chosen_more}
+use Rattle.std.proofs.Common.{ap, ◌∙◌, rules, refl, tests}
+use Rattle.std.specs.Iterator.Adapters.{enumerate_source, enumerate_count}
+use Rattle.std.specs.Slice.Iter.{iter_rest}
+use Rattle.std.proofs.lemmas.Iterator.Consumers.{YieldsList-at, YieldsList-from_filter_map}
+use Rattle.carrier.proofs.Chosen.{better, numbered, chosen_last, numbered_back, reduced}
 use Rattle.carrier.proofs.places.chosen.Goals as goal
 
-pub loop-at-init : goal.loop-at-init
-loop-at-init c = ap held (drop_all (length c.args.places.now) c.args.places.now (omega arith))
-
-pub loop-at-preserved : goal.loop-at-preserved
-loop-at-preserved c =
-    chosen_more c.args.make (c.loop-at.at - 1) c.loop-at.at c.args.places.now c.index-places-at.result c.loop-at.chosen c.choose-chosen.result (omega arith) (omega arith) c.index-places-at.is c.choose-chosen.ensures c.loop-at.invariant
+pub returns : goal.returns
+returns g c =
+    let back =
+    numbered_back _ (λ t. refl) {s = c.rev.result} c.args.places.now
+    (ap enumerate_count c.rev.ensures.source ∙ c.enumerate.ensures.count)
+    (ap (λ e. iter_rest (enumerate_source e)) c.rev.ensures.source ∙ ap iter_rest c.enumerate.ensures.source ∙ c.iter.ensures.rest) in
+    chosen_last g.M.Make.order c.args.places.now c.reduce.result
+    (reduced _ _ (better g.M.Make.order) c.reduce.result c.reduce.ensures.runs (λ x y r q k. search (rules, tests))
+    (YieldsList-from_filter_map _ numbered (YieldsList-at c.filter_map.ensures.source back) c.filter_map.ensures.closure (λ x r q k. search (rules, tests))))
