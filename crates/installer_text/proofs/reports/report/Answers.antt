@@ -19,10 +19,11 @@ returns c =
     let p = c.args.plan.now in
     let n = c.houses-houses.result in
     let h = c.loop-house.house in
+    let before = string_bytes c.args.text.now in
     let none : 0 ≡ n - h = omega arith in
     sym (append-nil (string_bytes c.loop-house.text))
     ∙ ap (λ k. string_bytes c.loop-house.text ++ houses_text p k h) none
     ∙ c.loop-house.invariant
-    ∙ ap (λ t. t ++ houses_text p n 0) c.in_ok-report_numbers.ensures
-    ∙ append_assoc (string_bytes c.args.text.now) (numbers_text p) (houses_text p n 0)
-    ∙ ap (λ k. string_bytes c.args.text.now ++ (numbers_text p ++ houses_text p k 0)) c.houses-houses.ensures
+    ∙ ap (λ t. t ++ houses_text p n 0) (rw (c.houses-houses.ensures, c.lines-lines.ensures, c.capacity-capacity.ensures) at c.in_ok-writeln.ensures.bytes)
+    ∙ append_assoc before (numbers_text p) (houses_text p n 0)
+    ∙ ap (λ k. before ++ (numbers_text p ++ houses_text p k 0)) c.houses-houses.ensures
