@@ -1,4 +1,4 @@
-// Judges plan files: one `C HEX` to a line of standard input.
+// Judges plan files: one `C HEX` or `M HEX` to a line of standard input.
 #![tactic(auto)]
 
 use anyhow::Context;
