@@ -1,76 +1,53 @@
--- The words of a line, held against the form that a line has.
-use Rattle.std.proofs.Common.{◌≡◌, ℕ, ◌+◌, ◌-◌, ◌<◌, ◌≤◌, ◌≢◌, List, [], ◌∷◌, ◌++◌, length, take, drop, sym, refl, ap, ◌∙◌, subst, subst₂, inl, inr, ⊎_elim, arith}
-use Rattle.std.proofs.lemmas.List.{append_assoc, append-nil, drop_all, drop-drop, length-take-le, length-drop, take_all}
-use Rattle.std.proofs.lemmas.Bool.{cases_lt}
-use Rattle.words.proofs.Cuts.{front_within, lines_more, parts_last, parts_more, some_part}
+-- The words of a line and the lines of the input, each with its place, held against their forms.
+use Rattle.std.proofs.Common.{◌≡◌, ℕ, ◌+◌, List, [], ◌∷◌, ◌++◌, length, sym, ap, ◌∙◌, subst, inl, inr}
 use Rattle.words.specs.Hex.{Bytes, NoBytes}
-use Rattle.words.specs.Parts.{front, lines, words}
-use Rattle.installer_text.specs.Answers.{Adds, Answered, AnsweredFile, AnsweredWords, Asked, HasNoForm, Printed}
+use Rattle.words.specs.Placed.{placed}
+use Rattle.installer_text.specs.Answers.{Answered, AnsweredFile, AnsweredWords, Asked, HasNoForm, Printed}
 use Rattle.installer_text.specs.Commands.{name_of}
 use Rattle.installer_text.specs.declared.commands.Command.{Command}
 
-module _ (at : ℕ) (xs t : List ℕ) where
-  alone : length xs ≤ front 32 xs → words xs ≡ take (front 32 xs) xs ∷ []
-  alone le = parts_last 32 xs le ∙ ap (λ w. w ∷ []) (sym (take_all (front 32 xs) xs le))
+first : (at : ℕ) (ws : List (List ℕ)) (a : ℕ) (w : List ℕ) (rest : List (ℕ × List ℕ)) → placed at ws ≡ (a, w) ∷ rest → (us : List (List ℕ)) × ((ws ≡ w ∷ us) × (at ≡ a) × (placed (a + length w + 1) us ≡ rest))
+first at [] a w rest e = cc
+first at (v ∷ us) a w rest e =
+    let here : ◌≡◌ {A = ℕ × List ℕ} (at, v) (a, w) = cc in
+    let behind : placed (at + length v + 1) us ≡ rest = cc in
+    (us, (ap (λ p. p.1 ∷ us) here, ap (λ p. p.0) here, subst (λ p. placed (p.0 + length p.1 + 1) us ≡ rest) here behind))
 
-  followed : front 32 xs < length xs → (v : List ℕ) × (vs : List (List ℕ)) × (words xs ≡ take (front 32 xs) xs ∷ v ∷ vs)
-  followed lt =
-      let next = some_part 32 (drop (front 32 xs + 1) xs) in
-      (next.0, next.1, parts_more 32 xs lt ∙ ap (λ ws. take (front 32 xs) xs ∷ ws) next.2)
+-- a line whose first two words are known, and of which `behind` is left
+module _ (k : Command) (at end : ℕ) (ws : List (List ℕ)) {a b : ℕ} {w h : List ℕ} {all rest behind : List (ℕ × List ℕ)} (placed_is : all ≡ placed at ws) (name : all ≡ (a, w) ∷ rest) (hex : rest ≡ (b, h) ∷ behind) (named : w ≡ name_of k) where
+  two : (t : List ℕ) → ((vs : List (List ℕ)) → placed (b + length h + 1) vs ≡ behind → AnsweredFile k b end (h ∷ vs) t) → AnsweredWords at end ws t
+  two t answered =
+      let p = first at ws a w rest (sym placed_is ∙ name) in
+      let q = first (a + length w + 1) p.0 b h behind (p.1.2 ∙ hex) in
+      let File : ℕ → List (List ℕ) → Type 0 = λ n us. AnsweredFile k n end us t in
+      let place : b ≡ at + length w + 1 = sym q.1.1 ∙ ap (λ n. n + length w + 1) (sym p.1.1) in
+      let file : File (at + length w + 1) p.0 = subst (File (at + length w + 1)) (sym q.1.0) (subst (λ n. File n (h ∷ q.0)) place (answered q.0 q.1.2)) in
+      subst (λ us. AnsweredWords at end us t) (sym p.1.0) (inl (k, named, file))
 
-  pub file_none : (k : Command) → NoBytes (take (front 32 xs) xs) → HasNoForm at t → AnsweredFile k at (at + length xs) (words xs) t
-  file_none k none refused =
-      ⊎_elim
-      (λ lt. let f = followed lt in subst (λ ws. AnsweredFile k at (at + length xs) ws t) (sym f.2) (inr (none, refused)))
-      (λ le. subst (λ ws. AnsweredFile k at (at + length xs) ws t) (sym (alone le)) (inr (none, refused)))
-      (cases_lt (front 32 xs) (length xs))
+  pub no_bytes : (t : List ℕ) → NoBytes h → HasNoForm b t → AnsweredWords at end ws t
+  no_bytes t none refused = two t file
+    where
+      file : (vs : List (List ℕ)) → placed (b + length h + 1) vs ≡ behind → AnsweredFile k b end (h ∷ vs) t
+      file [] _ = inr (none, refused)
+      file (x ∷ vs) _ = inr (none, refused)
 
-  pub file_extra : (k : Command) (f : List ℕ) → front 32 xs < length xs → Bytes (take (front 32 xs) xs) f → HasNoForm (at + front 32 xs + 1) t → AnsweredFile k at (at + length xs) (words xs) t
-  file_extra k f lt bytes refused =
-      let then = followed lt in
-      let long : length (take (front 32 xs) xs) ≡ front 32 xs = length-take-le (front 32 xs) xs (omega arith) in
-      subst (λ ws. AnsweredFile k at (at + length xs) ws t) (sym then.2)
-      (inl ((f, bytes), subst (λ n. HasNoForm (at + n + 1) t) (sym long) refused))
+  pub one_more : {e : ℕ} {x : List ℕ} {more : List (ℕ × List ℕ)} → behind ≡ (e, x) ∷ more → (f t : List ℕ) → Bytes h f → HasNoForm e t → AnsweredWords at end ws t
+  one_more {e} {x} {more} extra f t bytes refused = two t (λ vs is.
+      let p = first (b + length h + 1) vs e x more (is ∙ extra) in
+      subst (λ us. AnsweredFile k b end (h ∷ us) t) (sym p.1.0) (inl ((f, bytes), subst (λ n. HasNoForm n t) (sym p.1.1) refused)))
 
-  pub file_only : (k : Command) (f : List ℕ) → length xs ≤ front 32 xs → Bytes (take (front 32 xs) xs) f → Asked k f t → AnsweredFile k at (at + length xs) (words xs) t
-  file_only k f le bytes verdict = subst (λ ws. AnsweredFile k at (at + length xs) ws t) (sym (alone le)) (inl (f, bytes, verdict))
+  pub just_two : behind ≡ [] → (f t : List ℕ) → Bytes h f → Asked k f t → AnsweredWords at end ws t
+  just_two none f t bytes asked = two t file
+    where
+      file : (vs : List (List ℕ)) → placed (b + length h + 1) vs ≡ behind → AnsweredFile k b end (h ∷ vs) t
+      file [] _ = inl (f, bytes, asked)
+      file (x ∷ vs) is = cc
 
-  pub line_other : ((k : Command) → take (front 32 xs) xs ≢ name_of k) → HasNoForm at t → Answered at xs t
-  line_other other refused =
-      ⊎_elim
-      (λ lt. let f = followed lt in subst (λ ws. AnsweredWords at (at + length xs) ws t) (sym f.2) (inr (other, refused)))
-      (λ le. subst (λ ws. AnsweredWords at (at + length xs) ws t) (sym (alone le)) (inr (other, refused)))
-      (cases_lt (front 32 xs) (length xs))
+-- what is printed for lines with their places
+abbrev pub PrintedLines : List (ℕ × List ℕ) → List ℕ → Type 0
+PrintedLines [] t = t ≡ []
+PrintedLines (l ∷ ls) t = (u : List ℕ) × (v : List ℕ) × Answered l.0 l.1 u × PrintedLines ls v × (t ≡ u ++ v)
 
-  pub line_alone : (k : Command) → length xs ≤ front 32 xs → take (front 32 xs) xs ≡ name_of k → HasNoForm (at + length xs) t → Answered at xs t
-  line_alone k le is refused = subst (λ ws. AnsweredWords at (at + length xs) ws t) (sym (alone le)) (inl (k, is, refused))
-
-  pub line_file : (k : Command) → front 32 xs < length xs → take (front 32 xs) xs ≡ name_of k → AnsweredFile k (at + front 32 xs + 1) (at + front 32 xs + 1 + length (drop (front 32 xs + 1) xs)) (words (drop (front 32 xs + 1) xs)) t → Answered at xs t
-  line_file k lt is answered =
-      let n = front 32 xs in
-      let rest = drop (n + 1) xs in
-      let long : n ≡ length (take n xs) = sym (length-take-le n xs (omega arith)) in
-      let ends : at + n + 1 + length rest ≡ at + length xs = rw (length-drop (n + 1) xs) (omega arith) in
-      subst (λ ws. AnsweredWords at (at + length xs) ws t) (sym (parts_more 32 xs lt))
-      (inl (k, is, subst (λ m. AnsweredFile k (at + m + 1) (at + length xs) (words rest) t) long (subst (λ e. AnsweredFile k (at + n + 1) e (words rest) t) ends answered)))
-
--- one line more
-pub lines_answered : (input : List ℕ) (at end : ℕ) (before after : List ℕ) → at < length input → end ≡ at + front 10 (drop at input) → Adds (Answered at (take (end - at) (drop at input))) before after → ((t : List ℕ) → Printed at (lines (drop at input)) t → Printed 0 (lines input) (before ++ t)) → (t : List ℕ) → Printed (end + 1) (lines (drop (end + 1) input)) t → Printed 0 (lines input) (after ++ t)
-lines_answered input at end before after lt end_is (u, answered, added) so_far t rest =
-    let ys = drop at input in
-    let n = front 10 ys in
-    let n_is : end - at ≡ n = omega (arith, end_is) in
-    let some : 0 < length ys = rw (length-drop at input) (omega arith) in
-    let long : n ≡ length (take n ys) = sym (length-take-le n ys (front_within 10 ys)) in
-    let next : end + 1 ≡ at + n + 1 = omega (arith, end_is) in
-    let further : end + 1 ≡ at + (n + 1) = omega (arith, end_is) in
-    let behind : lines (drop (end + 1) input) ≡ lines (drop (n + 1) ys) = ap (λ k. lines (drop k input)) further ∙ ap lines (sym (drop-drop (n + 1) at input)) in
-    let rest' : Printed (at + length (take n ys) + 1) (lines (drop (n + 1) ys)) t = subst₂ (λ k ls. Printed k ls t) (next ∙ ap (λ k. at + k + 1) long) behind rest in
-    let here : Answered at (take n ys) u = subst (λ k. Answered at (take k ys) u) n_is answered in
-    let from_at : Printed at (lines ys) (u ++ t) = subst (λ ls. Printed at ls (u ++ t)) (sym (lines_more ys some)) (u, t, here, rest', refl) in
-    subst (Printed 0 (lines input)) (sym (append_assoc before u t) ∙ ap (λ b. b ++ t) (sym added)) (so_far (u ++ t) from_at)
-
-pub lines_done : (input : List ℕ) (at : ℕ) (text : List ℕ) → length input ≤ at → ((t : List ℕ) → Printed at (lines (drop at input)) t → Printed 0 (lines input) (text ++ t)) → Printed 0 (lines input) text
-lines_done input at text le so_far =
-    subst (Printed 0 (lines input)) (append-nil text)
-    (so_far [] (subst (λ ys. Printed at (lines ys) []) (sym (drop_all at input le)) refl))
+pub printed : (at : ℕ) (ls : List (List ℕ)) (t : List ℕ) → PrintedLines (placed at ls) t → Printed at ls t
+printed at [] t h = h
+printed at (l ∷ ls) t (u, v, answered, rest, is) = (u, v, answered, printed (at + length l + 1) ls v rest, is)

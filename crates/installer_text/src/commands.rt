@@ -1,4 +1,3 @@
-ghost use Rattle.std.specs.Prelude.{[], ◌∷◌};
 ghost use Rattle.installer_text.specs.Commands.{Named};
 
 // What a line asks of a plan file: to check it as it is, or to mark it anew.
@@ -13,19 +12,9 @@ impl Command {
     pub fn named(word: &[u8]) -> Option<Command>
         ensures { Named word.now result }
     {
-        if word.len() == 1 {
-            Command::of_letter(word[0])
-        } else {
-            None
-        }
-    }
-
-    fn of_letter(letter: u8) -> Option<Command>
-        ensures { Named (letter ∷ []) result }
-    {
-        match letter {
-            b'C' => Some(Command::Check),
-            b'M' => Some(Command::Mark),
+        match word {
+            [b'C'] => Some(Command::Check),
+            [b'M'] => Some(Command::Mark),
             _ => None,
         }
     }

@@ -1,74 +1,74 @@
 -- A text cut at its stops, part by part.
-use Rattle.std.proofs.Common.{◌≡◌, ℕ, suc, ◌+◌, ◌<◌, ◌≤◌, true, false, not, eqb, List, [], ◌∷◌, length, take, drop, sym, refl, ap, ◌∙◌, subst, ap₂, ⊎_elim, arith}
-use Rattle.std.proofs.lemmas.List.{take_all, drop_all}
-use Rattle.std.proofs.lemmas.List.Sums.{prefix_len-le-length}
-use Rattle.std.proofs.lemmas.Bool.{cases_Bool, cases_lt, cond-true, cond-false, not_from_true, not_from_false}
-use Rattle.words.specs.Parts.{front, onto, parts, ended, lines}
+use Rattle.std.proofs.Common.{◌≡◌, ℕ, ◌+◌, ◌-◌, ◌<◌, ◌≤◌, Bool, true, false, cond, eqb, List, [], ◌∷◌, ◌++◌, length, take, drop, sym, refl, ap, ◌∙◌, subst, ap₂, arith, length-drop}
+use Rattle.std.proofs.lemmas.List.{take_all, drop-drop, length-take-le}
+use Rattle.std.proofs.lemmas.List.Sums.{prefix_len-le-length, fails_before_first}
+use Rattle.std.proofs.lemmas.List.Splits.{slice_split_none, slice_split_first}
+use Rattle.std.proofs.lemmas.Slice.{between_is}
+use Rattle.std.specs.List.{onto_first}
+use Rattle.words.specs.Parts.{front, parts, ended, lines}
+use Rattle.words.specs.Placed.{placed}
 
-module _ (stop : ℕ) where
-  front_stop : (x : ℕ) (xs : List ℕ) → eqb x stop ≡ true → front stop (x ∷ xs) ≡ 0
-  front_stop x xs e = cond-false (not (eqb x stop)) (1 + front stop xs) 0 (not_from_true (eqb x stop) e)
+pub front_within : (stop : ℕ) (xs : List ℕ) → front stop xs ≤ length xs
+front_within stop xs = prefix_len-le-length _ xs
 
-  front_on : (x : ℕ) (xs : List ℕ) → eqb x stop ≡ false → front stop (x ∷ xs) ≡ 1 + front stop xs
-  front_on x xs e = cond-true (not (eqb x stop)) (1 + front stop xs) 0 (not_from_false (eqb x stop) e)
+-- a part ends at the first stop, and the next starts behind it
+pub cut_more : (stop at end : ℕ) (text : List ℕ) → end ≡ at + front stop (drop at text) → end < length text → placed at (parts stop (drop at text)) ≡ (at, drop at (take end text)) ∷ placed (end + 1) (parts stop (drop (end + 1) text))
+cut_more stop at end text end_is more =
+    let rest = drop at text in
+    let n = front stop rest in
+    let n_is : n ≡ end - at = omega (arith, end_is) in
+    let some : n < length rest = omega (arith, end_is, length-drop at text) in
+    let first : take n rest ≡ drop at (take end text) = ap (λ k. take k rest) n_is ∙ between_is text at end in
+    let next : at + length (take n rest) + 1 ≡ end + 1 = omega (arith, end_is, length-take-le n rest (omega arith)) in
+    let behind : drop (n + 1) rest ≡ drop (end + 1) text = drop-drop (n + 1) at text ∙ ap (λ k. drop k text) (omega (arith, end_is)) in
+    ap (placed at) (slice_split_first (λ x. eqb x stop) rest 0 some)
+    ∙ ap₂ (λ w ps. (at, w) ∷ ps) first (ap₂ (λ k xs. placed k (parts stop xs)) next behind)
 
-  pub front_within : (xs : List ℕ) → front stop xs ≤ length xs
-  front_within xs = prefix_len-le-length (λ x. not (eqb x stop)) xs
+pub cut_last : (stop at end : ℕ) (text : List ℕ) → end ≡ at + front stop (drop at text) → length text ≤ end → at ≤ length text → placed at (parts stop (drop at text)) ≡ (at, drop at (take end text)) ∷ []
+cut_last stop at end text end_is last within =
+    let rest = drop at text in
+    let none : length rest ≤ front stop rest = omega (arith, end_is, length-drop at text) in
+    ap (placed at) (slice_split_none (λ x. eqb x stop) rest (λ k d here. fails_before_first (λ x. eqb x stop) rest k d (omega (arith, none))))
+    ∙ ap (λ xs. (at, drop at xs) ∷ []) (sym (take_all end text last))
 
-  -- a text with no stop is one part
-  pub parts_last : (xs : List ℕ) → length xs ≤ front stop xs → parts stop xs ≡ xs ∷ []
-  parts_last [] h = refl
-  parts_last (x ∷ xs) h = ⊎_elim stopped (λ e. on (parts_last xs (omega (arith, front_on x xs e))) e) (cases_Bool (eqb x stop))
-    where
-      stopped : eqb x stop ≡ true → parts stop (x ∷ xs) ≡ (x ∷ xs) ∷ []
-      stopped e = absurd (omega (arith, front_stop x xs e))
-
-      on : parts stop xs ≡ xs ∷ [] → eqb x stop ≡ false → parts stop (x ∷ xs) ≡ (x ∷ xs) ∷ []
-      on rest e = cond-false (eqb x stop) ([] ∷ parts stop xs) (onto x (parts stop xs)) e ∙ ap (onto x) rest
-
-  -- another has a part before the first stop, and the parts of what follows
-  pub parts_more : (xs : List ℕ) → front stop xs < length xs → parts stop xs ≡ take (front stop xs) xs ∷ parts stop (drop (front stop xs + 1) xs)
-  parts_more [] h = absurd (omega arith)
-  parts_more (x ∷ xs) h = ⊎_elim stopped (λ e. on (parts_more xs (omega (arith, front_on x xs e))) e) (cases_Bool (eqb x stop))
-    where
-      cut : ℕ → List (List ℕ)
-      cut n = take n (x ∷ xs) ∷ parts stop (drop (n + 1) (x ∷ xs))
-
-      stopped : eqb x stop ≡ true → parts stop (x ∷ xs) ≡ cut (front stop (x ∷ xs))
-      stopped e = cond-true (eqb x stop) ([] ∷ parts stop xs) (onto x (parts stop xs)) e ∙ sym (ap cut (front_stop x xs e))
-
-      on : parts stop xs ≡ take (front stop xs) xs ∷ parts stop (drop (front stop xs + 1) xs) → eqb x stop ≡ false → parts stop (x ∷ xs) ≡ cut (front stop (x ∷ xs))
-      on rest e =
-          let n = front stop xs in
-          let e₁ : suc n ≡ 1 + n = omega arith in
-          let e₂ : suc (n + 1) ≡ suc n + 1 = omega arith in
-          cond-false (eqb x stop) ([] ∷ parts stop xs) (onto x (parts stop xs)) e
-          ∙ ap (onto x) rest
-          ∙ ap (λ k. (x ∷ take n xs) ∷ parts stop (drop k (x ∷ xs))) e₂
-          ∙ ap cut (e₁ ∙ sym (front_on x xs e))
-
-  pub some_part : (xs : List ℕ) → (w : List ℕ) × (ws : List (List ℕ)) × (parts stop xs ≡ w ∷ ws)
-  some_part xs = ⊎_elim (λ lt. (_, _, parts_more xs lt)) (λ le. (_, _, parts_last xs le)) (cases_lt (front stop xs) (length xs))
-
--- a text that is not empty has a first line, and the lines of what follows its end
-pub lines_more : (xs : List ℕ) → 0 < length xs → lines xs ≡ take (front 10 xs) xs ∷ lines (drop (front 10 xs + 1) xs)
-lines_more xs some = ⊎_elim more last (cases_lt (front 10 xs) (length xs))
+some_part : (stop : ℕ) (xs : List ℕ) → (w : List ℕ) × (ws : List (List ℕ)) × (parts stop xs ≡ w ∷ ws)
+some_part stop [] = ([], [], refl)
+some_part stop (x ∷ xs) = first (eqb x stop) (parts stop xs)
   where
-    ended_one : (w : List ℕ) → 0 < length w → ended (w ∷ []) ≡ w ∷ []
-    ended_one [] h = absurd (omega arith)
-    ended_one (x ∷ w) h = refl
+    first : (b : Bool) (ps : List (List ℕ)) → (w : List ℕ) × (ws : List (List ℕ)) × (cond b ([] ∷ ps) (onto_first x ps) ≡ w ∷ ws)
+    first true ps = ([], ps, refl)
+    first false [] = (x ∷ [], [], refl)
+    first false (p ∷ ps) = (x ∷ p, ps, refl)
 
-    ended_more : (w : List ℕ) (ws : List (List ℕ)) (v : List ℕ) (vs : List (List ℕ)) → ws ≡ v ∷ vs → ended (w ∷ ws) ≡ w ∷ ended ws
-    ended_more w ws v vs e = subst (λ us. ended (w ∷ us) ≡ w ∷ ended us) (sym e) refl
+parts_ended : (xs : List ℕ) → parts 10 (xs ++ 10 ∷ []) ≡ parts 10 xs ++ ([] ∷ [])
+parts_ended [] = refl
+parts_ended (x ∷ xs) = let p = some_part 10 xs in ap (λ ps. cond (eqb x 10) ([] ∷ ps) (onto_first x ps)) (parts_ended xs) ∙ more (eqb x 10) (parts 10 xs) p.0 p.1 p.2
+  where
+    more : (b : Bool) (ps : List (List ℕ)) (w : List ℕ) (ws : List (List ℕ)) → ps ≡ w ∷ ws → cond b ([] ∷ (ps ++ ([] ∷ []))) (onto_first x (ps ++ ([] ∷ []))) ≡ cond b ([] ∷ ps) (onto_first x ps) ++ ([] ∷ [])
+    more true ps w ws e = refl
+    more false ps w ws e = subst (λ us. onto_first x (us ++ ([] ∷ [])) ≡ onto_first x us ++ ([] ∷ [])) (sym e) refl
 
-    last : length xs ≤ front 10 xs → lines xs ≡ take (front 10 xs) xs ∷ lines (drop (front 10 xs + 1) xs)
-    last h =
-        ap ended (parts_last 10 xs h)
-        ∙ ended_one xs some
-        ∙ ap₂ (λ w ys. w ∷ lines ys) (sym (take_all (front 10 xs) xs h)) (sym (drop_all (front 10 xs + 1) xs (omega arith)))
+ended_of : (ps : List (List ℕ)) → ended (ps ++ ([] ∷ [])) ≡ ps
+ended_of [] = refl
+ended_of (w ∷ []) = refl
+ended_of (w ∷ v ∷ ps) = ap (λ us. w ∷ us) (ended_of (v ∷ ps))
 
-    more : front 10 xs < length xs → lines xs ≡ take (front 10 xs) xs ∷ lines (drop (front 10 xs + 1) xs)
-    more h =
-        let ys = drop (front 10 xs + 1) xs in
-        let first = some_part 10 ys in
-        ap ended (parts_more 10 xs h) ∙ ended_more (take (front 10 xs) xs) (parts 10 ys) first.0 first.1 first.2
+-- the lines of a text that ends its last line
+pub lines_closed : (xs : List ℕ) → lines (xs ++ 10 ∷ []) ≡ parts 10 xs
+lines_closed xs = ap ended (parts_ended xs) ∙ ended_of (parts 10 xs)
+
+-- and of one that does not
+pub lines_open : (xs : List ℕ) (x : ℕ) → eqb x 10 ≡ false → lines (xs ++ x ∷ []) ≡ parts 10 (xs ++ x ∷ [])
+lines_open [] x on = rw on
+lines_open (y ∷ xs) x on = let p = some_part 10 (xs ++ x ∷ []) in more (eqb y 10) (parts 10 (xs ++ x ∷ [])) p.0 p.1 p.2 (lines_open xs x on)
+  where
+    tail : (w v : List ℕ) (vs us : List (List ℕ)) → w ∷ us ≡ w ∷ v ∷ vs → (y ∷ w) ∷ us ≡ (y ∷ w) ∷ v ∷ vs
+    tail w v vs us e = let e' : us ≡ v ∷ vs = cc in ap (λ ts. (y ∷ w) ∷ ts) e'
+
+    kept : (w : List ℕ) (ws : List (List ℕ)) → ended (w ∷ ws) ≡ w ∷ ws → ended ((y ∷ w) ∷ ws) ≡ (y ∷ w) ∷ ws
+    kept w [] same = refl
+    kept w (v ∷ vs) same = tail w v vs (ended (v ∷ vs)) same
+
+    more : (b : Bool) (ps : List (List ℕ)) (w : List ℕ) (ws : List (List ℕ)) → ps ≡ w ∷ ws → ended ps ≡ ps → ended (cond b ([] ∷ ps) (onto_first y ps)) ≡ cond b ([] ∷ ps) (onto_first y ps)
+    more true ps w ws e same = subst (λ us. ended us ≡ us → ended ([] ∷ us) ≡ [] ∷ us) (sym e) (λ h. ap (λ us. [] ∷ us) h) same
+    more false ps w ws e same = subst (λ us. ended us ≡ us → ended (onto_first y us) ≡ onto_first y us) (sym e) (kept w ws) same

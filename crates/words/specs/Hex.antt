@@ -1,7 +1,7 @@
 -- Bytes in hexadecimal capitals.
-use Rattle.std.specs.Prelude.{◌≡◌, ℕ, ◌+◌, ◌/◌, ◌%◌, ◌<◌, cond, List, [], ◌∷◌, length, Some, None, vec_items, Option, Vec, nat_lt}
+use Rattle.std.specs.Prelude.{◌≡◌, ℕ, ◌+◌, ◌/◌, ◌%◌, ◌<◌, cond, All, List, [], ◌∷◌, length, Some, None, vec_items, Option, Vec, nat_lt}
 use Rattle.std.specs.declared.alloc.Global.{Global}
-use Rattle.std.specs.List.{flat_map, AllByRecursion}
+use Rattle.std.specs.List.{flat_map}
 
 -- the digit of a number below 16: 0 to 9, then A to F
 abbrev pub hex_digit : ℕ → ℕ
@@ -16,7 +16,7 @@ hex_of bs = flat_map pair_of bs
 
 -- the word is the hexadecimal form of these bytes, one at least
 abbrev pub Bytes : List ℕ → List ℕ → Type 0
-Bytes word bs = (0 < length bs) × AllByRecursion (λ b. b < 256) bs × (hex_of bs ≡ word)
+Bytes word bs = (0 < length bs) × All (λ b. b < 256) bs × (hex_of bs ≡ word)
 
 -- the word is the hexadecimal form of no bytes
 abbrev pub NoBytes : List ℕ → Type 0

@@ -1,2 +1,3 @@
 pub mod Parts
 pub mod Hex
+pub mod Placed

@@ -1,20 +1,14 @@
 -- A text cut at its stops: its words at single spaces, its lines at line ends.
-use Rattle.std.specs.Prelude.{ℕ, cond, not, List, [], ◌∷◌, ◌==◌}
-use Rattle.std.specs.List.{prefix_len}
+use Rattle.std.specs.Prelude.{ℕ, ◌==◌, List, [], ◌∷◌}
+use Rattle.std.specs.List.{position_or_len, slice_split}
 
 -- the length of the text before its first stop
 abbrev pub front : ℕ → List ℕ → ℕ
-front stop xs = prefix_len (λ x. not (x == stop)) xs
-
--- a byte before the first of the parts
-abbrev pub onto : ℕ → List (List ℕ) → List (List ℕ)
-onto x [] = (x ∷ []) ∷ []
-onto x (w ∷ ws) = (x ∷ w) ∷ ws
+front stop xs = position_or_len (λ x. x == stop) xs
 
 -- the parts between the stops: one more than there are stops, and each may be empty
 abbrev pub parts : ℕ → List ℕ → List (List ℕ)
-parts stop [] = [] ∷ []
-parts stop (x ∷ xs) = cond (x == stop) ([] ∷ parts stop xs) (onto x (parts stop xs))
+parts stop xs = slice_split (λ x. x == stop) xs
 
 -- the parts but for a last one that is empty
 abbrev pub ended : List (List ℕ) → List (List ℕ)

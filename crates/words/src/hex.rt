@@ -14,48 +14,30 @@ fn digit(byte: u8) -> Option<u8>
     }
 }
 
+// The byte whose two digits these are.
+fn byte_of(pair: [u8; 2]) -> Option<u8>
+    ensures { MatchOption result ((b : ℕ) → b < 256 → pair_of b ≢ pair) (λ b. pair_of b ≡ pair) }
+{
+    let [high, low] = pair;
+    Some(16 * digit(high)? + digit(low)?)
+}
+
 // The bytes, one at least, that a word has in hexadecimal capitals, two digits each; none where it has another form.
 pub fn from_hex(heap: Global, word: &[u8]) -> Result<Option<Vec<u8>>, AllocError>
     ensures { IfOk result (λ o. Decoded word.now o) }
 {
-    if word.len() == 0 {
-        return Ok(None);
-    }
-    if word.len() % 2 != 0 {
+    let (pairs, odd) = word.as_chunks::<2>();
+    if pairs.is_empty() || !odd.is_empty() {
         return Ok(None);
     }
     let mut bytes = Vec::new(heap);
-    for i in 0..word.len() / 2 {
-        let Some(high) = digit(word[2 * i]) else {
+    for pair in pairs {
+        let Some(byte) = byte_of(*pair) else {
             return Ok(None);
         };
-        let Some(low) = digit(word[2 * i + 1]) else {
-            return Ok(None);
-        };
-        bytes.push(16 * high + low)?;
+        bytes.push(byte)?;
     }
     Ok(Some(bytes))
-}
-
-// The hexadecimal digit of a value, in capitals.
-fn digit_of(value: u8) -> char
-    requires { value < 16 }
-    ensures { result ≡ hex_digit value }
-{
-    if value < 10 {
-        (b'0' + value) as char
-    } else {
-        (b'A' + (value - 10)) as char
-    }
-}
-
-// Adds the two digits of a byte to the text.
-fn push_byte(text: &mut String, byte: u8) -> Result<(), AllocError>
-    ensures { OnOk result (string_bytes text.new ≡ string_bytes text.old ++ pair_of byte) }
-{
-    text.push(digit_of(byte / 16))?;
-    text.push(digit_of(byte % 16))?;
-    Ok(())
 }
 
 // Adds the bytes to the text in hexadecimal capitals, two digits each.
@@ -63,7 +45,7 @@ pub fn to_hex(text: &mut String, bytes: &[u8]) -> Result<(), AllocError>
     ensures { OnOk result (string_bytes text.new ≡ string_bytes text.old ++ hex_of bytes.now) }
 {
     for byte in bytes {
-        push_byte(text, *byte)?;
+        write!(text, "{byte:02X}")?;
     }
     Ok(())
 }

@@ -2,9 +2,9 @@
 #![tactic(auto)]
 
 mod hex;
-mod memory;
+mod part;
 mod parts;
 
 pub use hex::{from_hex, to_hex};
-pub use memory::NoMemory;
-pub use parts::part_end;
+pub use part::Part;
+pub use parts::{Parts, lines_of, part_end};

@@ -1,6 +1,6 @@
-use Rattle.std.proofs.Common.{◌≡◌, suc, ◌+◌, ◌-◌, ◌++◌, string_bytes, sym, ap, ◌∙◌, arith}
-use Rattle.std.proofs.lemmas.List.{append_assoc, append-nil}
-use Rattle.installer_text.specs.Reports.{numbers_text, house_text, houses_text}
+use Rattle.std.proofs.Common.{◌≡◌, suc, ◌+◌, ◌-◌, ◌++◌, string_bytes, ap, ◌∙◌, arith}
+use Rattle.std.proofs.lemmas.List.{append_assoc}
+use Rattle.installer_text.specs.Reports.{house_text, houses_text}
 use Rattle.installer_text.proofs.reports.report.Goals as goal
 
 pub loop-house-preserved : goal.loop-house-preserved
@@ -13,16 +13,3 @@ loop-house-preserved c =
     ∙ append_assoc (string_bytes c.loop-house.text) (house_text p h) (houses_text p (n - (h + 1)) (h + 1))
     ∙ ap (λ k. string_bytes c.loop-house.text ++ houses_text p k h) left
     ∙ c.loop-house.invariant
-
-pub returns : goal.returns
-returns c =
-    let p = c.args.plan.now in
-    let n = c.houses-houses.result in
-    let h = c.loop-house.house in
-    let none : 0 ≡ n - h = omega arith in
-    sym (append-nil (string_bytes c.loop-house.text))
-    ∙ ap (λ k. string_bytes c.loop-house.text ++ houses_text p k h) none
-    ∙ c.loop-house.invariant
-    ∙ ap (λ t. t ++ houses_text p n 0) c.in_ok-report_numbers.ensures
-    ∙ append_assoc (string_bytes c.args.text.now) (numbers_text p) (houses_text p n 0)
-    ∙ ap (λ k. string_bytes c.args.text.now ++ (numbers_text p ++ houses_text p k 0)) c.houses-houses.ensures

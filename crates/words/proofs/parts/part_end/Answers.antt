@@ -1,26 +1,23 @@
-use Rattle.std.proofs.Common.{◌≡◌, true, false, not, eqb, get_or, arith}
-use Rattle.std.proofs.lemmas.List.Sums.{prefix_len-drop_yes, prefix_len-drop_no, prefix_len-drop_all}
-use Rattle.std.proofs.lemmas.Bool.{eq-eqb, ne_eqb, not_from_true, not_from_false}
+use Rattle.std.proofs.Common.{◌≡◌, ℕ, ◌+◌, ◌-◌, ◌≤◌, max, Some, None, cond, eqb, ltb, MatchOption, Option, length, drop, length-drop, subst, ◌∙◌, ⊎_elim, arith, rules, tests}
+use Rattle.std.proofs.lemmas.Bool.{cases_lt, cond-true, cond-false, lt-ltb, le-ltb}
+use Rattle.std.proofs.lemmas.Iterator.{YieldsList-from_slice}
+use Rattle.std.proofs.lemmas.Iterator.Adapters.{YieldsList-from_skip}
+use Rattle.std.proofs.lemmas.Iterator.Search.{position_from_yields_List}
+use Rattle.words.proofs.Cuts.{front_within}
 use Rattle.words.proofs.parts.part_end.Goals as goal
 
-pub loop-end-preserved : goal.loop-end-preserved
-loop-end-preserved c =
-    let on : not (eqb (get_or c.args.text.now c.loop-end.end 0) c.args.stop) ≡ true = not_from_false _ (ne_eqb _ _ c.if-text-end.true) in (
-      omega (arith, c.loop-end.invariant.0, prefix_len-drop_yes (λ x. not (eqb x c.args.stop)) c.args.text.now c.loop-end.end 0 c.loop-end-test.true on),
-      (λ _. omega (arith, c.loop-end-test.true)),
-    )
+ends_at : (found : Option ℕ) (n rest from long end : ℕ) → found ≡ cond (ltb n rest) (Some n) None → n ≤ rest → rest ≡ long - from → MatchOption found (end ≡ max long from) (λ k. end ≡ from + k) → end ≡ from + n
+ends_at found n rest from long end is within left ends =
+    let Ends : Option ℕ → Type 0 = λ o. MatchOption o (end ≡ max long from) (λ k. end ≡ from + k) in
+    ⊎_elim
+    (λ lt. subst Ends (is ∙ cond-true (ltb n rest) (Some n) None (lt-ltb n rest lt)) ends)
+    (λ le. let last : end ≡ max long from = subst Ends (is ∙ cond-false (ltb n rest) (Some n) None (le-ltb n rest le)) ends in omega arith)
+    (cases_lt n rest)
 
-pub returns-else-text-end : goal.returns-else-text-end
-returns-else-text-end c =
-    let stopped : not (eqb (get_or c.args.text.now c.loop-end.end 0) c.args.stop) ≡ false = not_from_true _ (eq-eqb _ _ c.if-text-end.false) in
-    record {
-      place = omega (arith, c.loop-end.invariant.0, prefix_len-drop_no (λ x. not (eqb x c.args.stop)) c.args.text.now c.loop-end.end 0 c.loop-end-test.true stopped);
-      within = c.loop-end.invariant.1;
-    }
-
-pub returns-after-loop-end : goal.returns-after-loop-end
-returns-after-loop-end c =
-    record {
-      place = omega (arith, c.loop-end.invariant.0, prefix_len-drop_all (λ x. not (eqb x c.args.stop)) c.args.text.now c.loop-end.end c.loop-end-test.false);
-      within = c.loop-end.invariant.1;
-    }
+pub returns-clause-place : goal.returns-clause-place
+returns-clause-place c =
+    let text = c.args.text.now in
+    let from = c.args.from in
+    let skipped = YieldsList-from_skip from (YieldsList-from_slice text cc) cc in
+    let found = position_from_yields_List (λ x. eqb x c.args.stop) _ _ c.position.result c.position.ensures.ran skipped (λ x b q k. search (rules, tests)) in
+    ends_at c.position.result _ _ from (length text) c.map_or.result found (front_within c.args.stop (drop from text)) (length-drop from text) (search rules)
