@@ -14,19 +14,13 @@ pub(crate) const NONE_WAITS: Waiting<Word> = Waiting {
     response: None,
 };
 
-// What waits for a line once a message has come to wait for it.
-fn with_message(waiting: Waiting<Word>, message: Message<Word>) -> Waiting<Word>
-    ensures { result ≡ with_message message waiting }
+// A message comes to wait.
+fn add(waiting: &mut Waiting<Word>, message: Message<Word>)
+    ensures { waiting.new ≡ with_message message waiting.old }
 {
     match message {
-        Message::Request => Waiting {
-            request: true,
-            ..waiting
-        },
-        Message::Response(word) => Waiting {
-            response: Some(word),
-            ..waiting
-        },
+        Message::Request => waiting.request = true,
+        Message::Response(word) => waiting.response = Some(word),
     }
 }
 
@@ -52,7 +46,7 @@ pub(crate) fn send(
 {
     for (i, line) in lines.iter().enumerate() {
         if line.meets(way_of(message), End::From, house) {
-            waiting[i] = with_message(waiting[i], message);
+            add(&mut waiting[i], message);
         }
     }
 }

@@ -53,19 +53,6 @@ impl<Q: Quantity, C: Carrier> Row<Q, C> {
         })
     }
 
-    // The house at the end of the line, with its reading.
-    fn house_at_end(&self, line: usize) -> House
-        requires { line < self.now.plan.draft.lines }
-        ensures number { result.number ≡ end_of (state_of C.meaning self.now) line }
-        ensures reading { result.reading ≡ reading_of (state_of C.meaning self.now) result.number }
-    {
-        let number = self.plan.line(line).unwrap().to as usize;
-        House {
-            number,
-            reading: self.readings[number],
-        }
-    }
-
     // Replaces a house's reading.
     pub fn set(&mut self, house: usize, reading: Reading) -> Result<(), Fault>
         ensures sets { Sets (state_of C.meaning self.old) house reading result (state_of C.meaning self.new) }
@@ -86,5 +73,18 @@ impl<Q: Quantity, C: Carrier> Row<Q, C> {
             figures: Q::figures(self.question.head().holding),
             hand_overs: self.question.round.hand_overs,
         })
+    }
+
+    // The house at the end of the line, with its reading.
+    fn house_at_end(&self, line: usize) -> House
+        requires { line < self.now.plan.draft.lines }
+        ensures number { result.number ≡ end_of (state_of C.meaning self.now) line }
+        ensures reading { result.reading ≡ reading_of (state_of C.meaning self.now) result.number }
+    {
+        let number = self.plan.line(line).unwrap().to as usize;
+        House {
+            number,
+            reading: self.readings[number],
+        }
     }
 }

@@ -1,8 +1,7 @@
 use Rattle.std.proofs.Common.{◌≡◌, ◌+◌, ◌<◌, ◌≤◌, length, get_or, take, set, sym, ap, ◌∙◌, subst, arith}
-use Rattle.std.proofs.lemmas.List.{get_or_default}
 use Rattle.lines.specs.declared.lines.End.{End}
 use Rattle.lines.specs.Lines.{blank, meets}
-use Rattle.pulse.specs.Rounds.{with_message, way_of, at_lines, none_waits}
+use Rattle.pulse.specs.Rounds.{with_message, way_of, at_lines}
 use Rattle.row.proofs.AtLines.{at_lines_changed, at_lines_kept}
 use Rattle.row.proofs.waiting.send.Goals as goal
 use Rattle.row.proofs.waiting.send.Goals.{then-meets, else-meets}
@@ -16,9 +15,12 @@ loop-i-preserved c =
     let i = c.loop-i.i in
     let lt : i < length ls = omega arith in
     let le : length ls ≤ length xs = omega arith in
-    let within : i < length c.loop-i.waiting = omega arith in
     let tested : c.meets.result ≡ p (get_or ls i blank) = cc in
     elim c.if-meets.branch [
-      | then-meets w ↦ w.waiting-is ∙ ap (set c.loop-i.waiting i) (w.with_message.ensures ∙ ap f (w.index-waiting-i.is ∙ get_or_default c.loop-i.waiting i w.index-waiting-i.result none_waits within)) ∙ subst (λ ys. set ys i (f (get_or ys i none_waits)) ≡ at_lines p f (take (i + 1) ls) xs) (sym c.loop-i.invariant) (sym (at_lines_changed p f none_waits ls xs i lt le (sym tested ∙ w.if-meets.true)))
-      | else-meets w ↦ w.waiting-is ∙ c.loop-i.invariant ∙ sym (at_lines_kept p f ls xs i lt le (sym tested ∙ w.if-meets.false))
+      then-meets w ↦
+        let d = w.index-waiting-i.result in
+        w.waiting-is
+        ∙ ap (set c.loop-i.waiting i) w.add.ensures
+        ∙ subst (λ ys. set ys i (f (get_or ys i d)) ≡ at_lines p f (take (i + 1) ls) xs) (sym c.loop-i.invariant) (sym (at_lines_changed p f d ls xs i lt le (sym tested ∙ w.if-meets.true)))
+    | else-meets w ↦ w.waiting-is ∙ c.loop-i.invariant ∙ sym (at_lines_kept p f ls xs i lt le (sym tested ∙ w.if-meets.false))
     ]
