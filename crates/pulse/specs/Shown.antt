@@ -1,6 +1,6 @@
 -- How a call is printed: its letter and what it is given; and its answer: ok and what was answered, or the refusal. Words
 -- are parted by one space.
-use Rattle.std.specs.Prelude.{ℕ, List, ◌++◌, ℤ, Some, None, Ok, Err, codes, decimal, Option, Result}
+use Rattle.std.specs.Prelude.{ℕ, List, ◌++◌, ℤ, Some, None, Ok, Err, codes, decimal, Option, Result, option_map}
 use Rattle.std.specs.Fmt.{signed_decimal}
 use Rattle.fault.specs.declared.faults.Fault.{Fault}
 use Rattle.fault.specs.Shown.{refusal}
@@ -45,12 +45,8 @@ delivery_shown (Ok d) = codes "ok " ++ (kind_word d.kind ++ (codes " " ++ decima
 delivery_shown (Err v) = refusal v
 
 -- ok, the figures as they are printed, and the number of hand-overs
-abbrev pub with_figures : ℕ → Option (List ℕ) → Option (List ℕ)
-with_figures hand-overs None = None
-with_figures hand-overs (Some figures) = Some (codes "ok " ++ (figures ++ (codes " " ++ decimal hand-overs)))
-
 abbrev pub report_shown : {F : Type 0} → (F → Option (List ℕ)) → Result (Report F) Fault → Option (List ℕ)
-report_shown shown (Ok x) = with_figures x.hand_overs (shown x.figures)
+report_shown shown (Ok x) = option_map (λ figures. codes "ok " ++ (figures ++ (codes " " ++ decimal x.hand_overs))) (shown x.figures)
 report_shown shown (Err v) = Some (refusal v)
 
 abbrev pub answer_shown : {F : Type 0} → (F → Option (List ℕ)) → Answer F → Option (List ℕ)
