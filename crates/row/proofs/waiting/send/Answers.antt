@@ -17,10 +17,10 @@ loop-i-preserved c =
     let le : length ls ≤ length xs = omega arith in
     let tested : c.meets.result ≡ p (get_or ls i blank) = cc in
     elim c.if-meets.branch [
-      then-meets w ↦
-        let d = w.index-waiting-i.result in
-        w.waiting-is
-        ∙ ap (set c.loop-i.waiting i) w.add.ensures
-        ∙ subst (λ ys. set ys i (f (get_or ys i d)) ≡ at_lines p f (take (i + 1) ls) xs) (sym c.loop-i.invariant) (sym (at_lines_changed p f d ls xs i lt le (sym tested ∙ w.if-meets.true)))
-    | else-meets w ↦ w.waiting-is ∙ c.loop-i.invariant ∙ sym (at_lines_kept p f ls xs i lt le (sym tested ∙ w.if-meets.false))
+      | then-meets w ↦
+          let d = w.index-waiting-i.result in
+          w.waiting-is
+          ∙ ap (set c.loop-i.waiting i) w.add.ensures
+          ∙ subst (λ ys. set ys i (f (get_or ys i d)) ≡ at_lines p f (take (i + 1) ls) xs) (sym c.loop-i.invariant) (sym (at_lines_changed p f d ls xs i lt le (sym tested ∙ w.if-meets.true)))
+      | else-meets w ↦ w.waiting-is ∙ c.loop-i.invariant ∙ sym (at_lines_kept p f ls xs i lt le (sym tested ∙ w.if-meets.false))
     ]
