@@ -1,6 +1,7 @@
 -- Tests as numbers: how the accounts of a line change, case by case.
 use Rattle.std.proofs.Common.{◌≡◌, ℕ, ◌+◌, ◌≤◌, Bool, true, false, cond, ◌&&◌, eqb, ◌≢◌, is_some, Some, None, Option, sym, refl, ap, ◌∙◌, subst, ⊎_elim, arith}
-use Rattle.std.proofs.lemmas.Bool.{cases_eq, cond-true, cond-false, eq-eqb, ne_eqb, true≢false}
+use Rattle.std.proofs.lemmas.Bool.{cases_eq, cond-true, cond-false, eq-eqb, ne_eqb}
+use Rattle.std.proofs.lemmas.Bool.Decides.{nat_tests}
 use Rattle.pulse.specs.Traces.{at}
 use Rattle.pulse.proofs.Totals.{bit}
 
@@ -19,45 +20,28 @@ at_alike g f i x same j =
     (cases_eq j i)
 
 pub no_bit : (b : Bool) → bit b ≡ 0 → b ≡ false
-no_bit true e = absurd (omega arith)
-no_bit false e = refl
+no_bit b e = grind (arith, nat_tests)
 
 pub few_bit : (b : Bool) → bit b ≤ 1
-few_bit true = omega arith
-few_bit false = omega arith
+few_bit b = grind (arith, nat_tests)
 
 pub bit_left : (x y : Bool) → bit (x && y) ≤ bit x
-bit_left true true = omega arith
-bit_left true false = omega arith
-bit_left false y = omega arith
+bit_left x y = grind (arith, nat_tests)
 
 pub none_there : {W : Type 0} (o : Option W) → bit (is_some o) ≡ 0 → o ≡ None
-none_there None e = refl
-none_there (Some w) e = absurd (omega arith)
+none_there o e = grind (arith, nat_tests)
 
 -- a request on a direct line: its start was called, its end was not, and it is the only one
 pub one_request : (d end start : Bool) (k r : ℕ) → bit (d && end) + ((1 + k) + r) ≡ bit (d && start) → (d ≡ true) × (end ≡ false) × (start ≡ true) × (k ≡ 0) × (r ≡ 0)
-one_request true true true k r e = absurd (omega arith)
-one_request true true false k r e = absurd (omega arith)
-one_request true false true k r e = (refl, refl, refl, omega arith, omega arith)
-one_request true false false k r e = absurd (omega arith)
-one_request false end start k r e = absurd (omega arith)
+one_request d end start k r e = grind (arith, nat_tests)
 
 -- a response on a back line: its start has sent it, and it is the only one
 pub one_response : (b start : Bool) (k r x : ℕ) → ((1 + k) + r) + x ≡ bit (b && start) → (b ≡ true) × (start ≡ true) × (k ≡ 0) × (r ≡ 0) × (x ≡ 0)
-one_response true true k r x e = (refl, refl, omega arith, omega arith, omega arith)
-one_response true false k r x e = absurd (omega arith)
-one_response false start k r x e = absurd (omega arith)
+one_response b start k r x e = grind (arith, nat_tests)
 
 -- a line's requests once a house was called: it lies at the end where `at-end`, at the start where `at-start`
 pub requests_other : (d end start r at-end at-start : Bool) (k : ℕ) → bit (d && end) + (k + bit r) ≡ bit (d && start) → (d ≡ true → at-end ≡ false) → (at-start ≡ true → start ≡ false) → bit (d && cond at-end true end) + (k + bit (cond (d && at-start) true r)) ≡ bit (d && cond at-start true start)
-requests_other false end start r at-end at-start k e sole new = e
-requests_other true end start r true at-start k e sole new = absurd (true≢false (sole refl))
-requests_other true end start r false false k e sole new = e
-requests_other true end true r false true k e sole new = absurd (true≢false (new refl))
-requests_other true end false true false true k e sole new = absurd (omega arith)
-requests_other true true false false false true k e sole new = absurd (omega arith)
-requests_other true false false false false true k e sole new = omega arith
+requests_other d end start r at-end at-start k e sole new = grind (arith, nat_tests)
 
 pub requests_here : (d end start r at-end at-start : Bool) (k : ℕ) → d ≡ true → start ≡ true → k ≡ 0 → bit r ≡ 0 → at-end ≡ true → at-start ≡ false → bit (d && cond at-end true end) + (k + bit (cond (d && at-start) true r)) ≡ bit (d && cond at-start true start)
 requests_here d end start r at-end at-start k is-d is-start is-k is-r is-end is-away =
@@ -65,23 +49,11 @@ requests_here d end start r at-end at-start k is-d is-start is-k is-r is-end is-
 
 -- a line's loads once a house was called
 pub loads_called : (d start r at-start : Bool) (l k x y z : ℕ) → x + (k + bit r) ≡ bit (d && start) → (at-start ≡ true → start ≡ false) → l + (bit r + y) ≡ bit (d && start) + z → l + (bit (cond (d && at-start) true r) + y) ≡ bit (d && cond at-start true start) + z
-loads_called false start r at-start l k x y z e new h = h
-loads_called true start r false l k x y z e new h = h
-loads_called true true r true l k x y z e new h = absurd (true≢false (new refl))
-loads_called true false true true l k x y z e new h = absurd (omega arith)
-loads_called true false false true l k x y z e new h = omega arith
+loads_called d start r at-start l k x y z e new h = grind (arith, nat_tests)
 
 -- a line's responses once a house has sent its own
 pub responses_sent : {W : Type 0} (b start at-start : Bool) (o : Option W) (w : W) (k x : ℕ) → (k + bit (is_some o)) + x ≡ bit (b && start) → (at-start ≡ true → start ≡ false) → (k + bit (is_some (cond (b && at-start) (Some w) o))) + x ≡ bit (b && cond at-start true start)
-responses_sent false start at-start o w k x e new = e
-responses_sent true start false o w k x e new = e
-responses_sent true true true o w k x e new = absurd (true≢false (new refl))
-responses_sent true false true None w k x e new = omega arith
-responses_sent true false true (Some u) w k x e new = absurd (omega arith)
+responses_sent b start at-start o w k x e new = grind (arith, nat_tests)
 
 pub loads_sent : {W : Type 0} (b start at-start : Bool) (o : Option W) (w : W) (l k x y z : ℕ) → (k + bit (is_some o)) + x ≡ bit (b && start) → (at-start ≡ true → start ≡ false) → l + (y + bit (is_some o)) ≡ z + bit (b && start) → l + (y + bit (is_some (cond (b && at-start) (Some w) o))) ≡ z + bit (b && cond at-start true start)
-loads_sent false start at-start o w l k x y z e new h = h
-loads_sent true start false o w l k x y z e new h = h
-loads_sent true true true o w l k x y z e new h = absurd (true≢false (new refl))
-loads_sent true false true None w l k x y z e new h = omega arith
-loads_sent true false true (Some u) w l k x y z e new h = absurd (omega arith)
+loads_sent b start at-start o w l k x y z e new h = grind (arith, nat_tests)

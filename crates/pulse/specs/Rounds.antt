@@ -36,8 +36,8 @@ waiting_for r i = slice_index_or r.waiting i none_waits
 
 -- what waits for a line once a message has come to wait for it too; the message replaces one of its kind that waits there
 abbrev pub with_message : {W : Type 0} → Message W → Waiting W → Waiting W
-with_message Message.Request x = record { request = true; response = x.response }
-with_message (Message.Response w) x = record { request = x.request; response = Some w }
+with_message Message.Request x = record x { request = true }
+with_message (Message.Response w) x = record x { response = Some w }
 
 -- requests go out along direct lines, responses come home along back lines
 abbrev pub way_of : {W : Type 0} → Message W → Way
@@ -62,26 +62,19 @@ value_of q w = unwrap_or (q.back w) q.nothing
 -- house h is called: it takes its reading, whose value joins its holding, and a request waits for each direct line that
 -- leaves it
 abbrev pub call : {V W F : Type 0} → Sense V W F → Draft → ℕ → Reading → Round V W → Round V W
-call q d h reading r = record {
-  houses = slice_set r.houses h (record {
+call q d h reading r = record r {
+  houses = slice_set r.houses h (record (standing q r h) {
     called = true;
-    awaited = (standing q r h).awaited;
     holding = q.join (standing q r h).holding (q.given h reading);
   });
   waiting = sends d h Message.Request r.waiting;
-  hand_overs = r.hand_overs;
 }
 
 -- house h answers: its holding moves, as a word, into a response that waits for its back line, and it then holds nothing
 abbrev pub respond : {V W F : Type 0} → Sense V W F → Draft → ℕ → Round V W → Round V W
-respond q d h r = record {
-  houses = slice_set r.houses h (record {
-    called = (standing q r h).called;
-    awaited = (standing q r h).awaited;
-    holding = q.nothing;
-  });
+respond q d h r = record r {
+  houses = slice_set r.houses h (record (standing q r h) { holding = q.nothing });
   waiting = sends d h (Message.Response (q.word (standing q r h).holding)) r.waiting;
-  hand_overs = r.hand_overs;
 }
 
 -- a house other than the head answers as soon as it is called and awaits no response
@@ -90,14 +83,11 @@ settle q d h r = cond (not (h == 0) && done (standing q r h)) (respond q d h r) 
 
 -- house h receives a response: the value of the word joins its holding, and it awaits one less, called or not
 abbrev pub receive : {V W F : Type 0} → Sense V W F → ℕ → W → Round V W → Round V W
-receive q h w r = record {
-  houses = slice_set r.houses h (record {
-    called = (standing q r h).called;
+receive q h w r = record r {
+  houses = slice_set r.houses h (record (standing q r h) {
     awaited = (standing q r h).awaited - 1;
     holding = q.join (standing q r h).holding (value_of q w);
   });
-  waiting = r.waiting;
-  hand_overs = r.hand_overs;
 }
 
 -- a message comes to house h, which has that reading, over whichever line: a request calls it, and a response is received;
@@ -108,17 +98,13 @@ deliver q d h reading (Message.Response w) r = cond ((standing q r h).awaited ==
 
 -- one more hand-over, up to the greatest number of 32 bits
 abbrev pub counted : {V W : Type 0} → Round V W → Round V W
-counted r = record {
-  houses = r.houses;
-  waiting = r.waiting;
-  hand_overs = min (r.hand_overs + 1) (2 ^ 32 - 1);
-}
+counted r = record r { hand_overs = min (r.hand_overs + 1) (2 ^ 32 - 1) }
 
 -- a round begins: every house is not called, awaits its counter and holds nothing; then the head is called, which has that
 -- reading. What waits for the lines stays
 abbrev pub begin : {V W F : Type 0} → Sense V W F → Draft → Reading → Round V W → Round V W
 begin q d reading r =
-    call q d 0 reading (record { houses = map (idle q) d.counters; waiting = r.waiting; hand_overs = 0 })
+    call q d 0 reading (record r { houses = map (idle q) d.counters; hand_overs = 0 })
 
 -- the round was begun: its head was called
 abbrev pub begun : {V W F : Type 0} → Sense V W F → Round V W → Bool

@@ -83,25 +83,19 @@ next x = cond x.request Message.Request (response_next x.response)
 
 -- what waits for the line after that
 abbrev pub rest : {W : Type 0} → Waiting W → Waiting W
-rest x = cond x.request (record { request = false; response = x.response }) none_waits
+rest x = cond x.request (record x { request = false }) none_waits
 
 -- the row with another round
 abbrev pub with_round : {V W : Type 0} → State V W → Round V W → State V W
-with_round s r = record { plan = s.plan; fit = s.fit; readings = s.readings; round = r; lists = s.lists }
+with_round s r = record s { round = r }
 
 -- the row with other messages on line i
 abbrev pub with_list : {V W : Type 0} → State V W → ℕ → List (Message W) → State V W
-with_list s i xs = record {
-  plan = s.plan;
-  fit = s.fit;
-  readings = s.readings;
-  round = s.round;
-  lists = slice_set s.lists i xs;
-}
+with_list s i xs = record s { lists = slice_set s.lists i xs }
 
 -- the round with something else waiting for line i
 abbrev pub with_waiting : {V W : Type 0} → Round V W → ℕ → Waiting W → Round V W
-with_waiting r i x = record { houses = r.houses; waiting = slice_set r.waiting i x; hand_overs = r.hand_overs }
+with_waiting r i x = record r { waiting = slice_set r.waiting i x }
 
 -- the row after a load of line i: the message that waited next is on the line, behind the others
 abbrev pub loaded : {V W : Type 0} → State V W → ℕ → State V W
@@ -121,13 +115,7 @@ handed q s i x xs =
 
 -- the row with another reading of house h
 abbrev pub with_reading : {V W : Type 0} → State V W → ℕ → Reading → State V W
-with_reading s h r = record {
-  plan = s.plan;
-  fit = s.fit;
-  readings = slice_set s.readings h r;
-  round = s.round;
-  lists = s.lists;
-}
+with_reading s h r = record s { readings = slice_set s.readings h r }
 
 -- what read answers: the final figures of the answer, and the number of accepted hand-overs since begin
 abbrev pub report : {V W F : Type 0} → Sense V W F → State V W → Report F

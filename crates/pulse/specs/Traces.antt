@@ -1,5 +1,6 @@
 -- What a trace tells. A trace is a list of exchanges, each a call with its answer; the state of the row is not looked at.
-use Rattle.std.specs.Prelude.{ℕ, suc, ◌+◌, Bool, true, false, cond, List, [], ◌∷◌, is_ok, Some, None, Ok, Err, Option, Result, ◌==◌}
+use Rattle.std.specs.Prelude.{ℕ, suc, ◌+◌, Bool, true, false, cond, List, [], ◌∷◌, is_ok, Some, None, Option, ◌==◌}
+use Rattle.std.specs.Result.{result_err, result_ok}
 use Rattle.fault.specs.declared.faults.Fault.{Fault}
 use Rattle.quantity.specs.declared.readings.Reading.{Reading}
 use Rattle.quantity.specs.Readings.{blank_reading}
@@ -35,16 +36,19 @@ accepted (Answer.HandOver r) = is_ok r
 accepted (Answer.Set r) = is_ok r
 accepted (Answer.Read r) = is_ok r
 
--- what hand over answered, if it was accepted
-abbrev pub delivered : Result Delivery Fault → Option Delivery
-delivered (Ok d) = Some d
-delivered (Err v) = None
+-- why the call was refused; none if it was accepted
+abbrev pub refusal_of : {F : Type 0} → Answer F → Option Fault
+refusal_of (Answer.Begin r) = result_err r
+refusal_of (Answer.Load r) = result_err r
+refusal_of (Answer.HandOver r) = result_err r
+refusal_of (Answer.Set r) = result_err r
+refusal_of (Answer.Read r) = result_err r
 
--- the same of any answer; no other call hands a message over
+-- what hand over answered, if it was accepted; no other call hands a message over
 abbrev pub delivery : {F : Type 0} → Answer F → Option Delivery
 delivery (Answer.Begin r) = None
 delivery (Answer.Load r) = None
-delivery (Answer.HandOver r) = delivered r
+delivery (Answer.HandOver r) = result_ok r
 delivery (Answer.Set r) = None
 delivery (Answer.Read r) = None
 
@@ -54,8 +58,7 @@ takes a h = record { house = h; reading = a.given h } ∷ a.taken
 
 -- an accepted begin starts a round, in which the head takes its reading
 abbrev pub with_begin : Account → Account
-with_begin a = record {
-  given = a.given;
+with_begin a = record a {
   begun = true;
   taken = record { house = 0; reading = a.given 0 } ∷ [];
   loads = λ _. 0;
@@ -64,23 +67,11 @@ with_begin a = record {
 
 -- an accepted load of line i
 abbrev pub with_load : Account → ℕ → Account
-with_load a i = record {
-  given = a.given;
-  begun = a.begun;
-  taken = a.taken;
-  loads = at a.loads i (a.loads i + 1);
-  hand_overs = a.hand_overs;
-}
+with_load a i = record a { loads = at a.loads i (a.loads i + 1) }
 
 -- an accepted set of house h
 abbrev pub with_set : Account → ℕ → Reading → Account
-with_set a h r = record {
-  given = at a.given h r;
-  begun = a.begun;
-  taken = a.taken;
-  loads = a.loads;
-  hand_overs = a.hand_overs;
-}
+with_set a h r = record a { given = at a.given h r }
 
 -- house h takes its reading at an accepted hand over that answers a request and house h
 abbrev pub taken_at : Account → Kind → ℕ → List Taking
@@ -90,13 +81,7 @@ taken_at a Kind.Response h = a.taken
 -- an accepted hand over
 abbrev pub with_hand_over : Account → Option Delivery → Account
 with_hand_over a None = a
-with_hand_over a (Some d) = record {
-  given = a.given;
-  begun = a.begun;
-  taken = taken_at a d.kind d.house;
-  loads = a.loads;
-  hand_overs = a.hand_overs + 1;
-}
+with_hand_over a (Some d) = record a { taken = taken_at a d.kind d.house; hand_overs = a.hand_overs + 1 }
 
 -- the account after one more exchange; a refused call changes nothing in it, nor does read
 abbrev pub noted : {F : Type 0} → Account → Call → Answer F → Account

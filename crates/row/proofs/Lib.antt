@@ -1,5 +1,4 @@
 mod AtLines
-mod Deliveries
 mod Empty
 mod Idle
 mod KeepsLaw

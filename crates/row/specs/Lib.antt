@@ -1,3 +1,2 @@
-pub mod Houses
 pub mod Rows
 pub mod Runs

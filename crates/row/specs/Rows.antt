@@ -1,11 +1,10 @@
 -- A row as a state of the rules, by the meaning of its carrier.
-use Rattle.std.specs.Prelude.{◌≡◌, ℕ, ◌<◌, Bool, List, [], length, replicate}
+use Rattle.std.specs.Prelude.{◌≡◌, ℕ, ◌<◌, Bool, [], length, replicate}
 use Rattle.plan.specs.declared.plans.Plan.{Plan}
 use Rattle.quantity.specs.declared.words.Word.{Word}
 use Rattle.quantity.specs.Readings.{blank_reading}
 use Rattle.quantity.specs.Senses.{Sense}
-use Rattle.carrier.specs.declared.messages.Message.{Message}
-use Rattle.carrier.specs.Meanings.{Meaning, Without, on, with_list}
+use Rattle.carrier.specs.Meanings.{Meaning, on}
 use Rattle.pulse.specs.States.{State, first_round}
 use Rattle.row.specs.declared.rows.Row.{Row}
 
@@ -15,7 +14,7 @@ state_of meaning r = record {
   plan = r.plan;
   fit = r.fit;
   readings = r.readings;
-  round = r.round;
+  round = r.question.round;
   lists = (meaning r.carrier).lists;
 }
 
@@ -44,7 +43,3 @@ Loadable b i = (i < 128) × (i < length b.lists) × (length (on b i) < b.capacit
 -- the carrier has a message on the line, which the plan has too
 abbrev pub Takeable : Plan → Meaning Word → ℕ → Type 0
 Takeable p b i = (i < p.draft.lines) × (i < length b.lists) × (0 < length (on b i))
-
--- some message was taken off the line, and the rest keep their order
-abbrev pub TakenOff : Meaning Word → ℕ → Message Word → Meaning Word → Type 0
-TakenOff b i x c = (rest : List (Message Word)) × Without (on b i) x rest × (c ≡ with_list b i rest)

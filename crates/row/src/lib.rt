@@ -2,8 +2,7 @@
 #![tactic(auto)]
 
 mod houses;
-mod rounds;
-mod row_lines;
+mod questions;
 mod rows;
 mod waiting;
 

@@ -1,10 +1,10 @@
-ghost use Rattle.std.specs.Prelude.{◌≡◌};
+ghost use Rattle.std.specs.Prelude.{◌≡◌, ◌<◌};
 ghost use Rattle.carrier.specs.Meanings.{SameIfRefused};
-ghost use Rattle.pulse.specs.Steps.{Begins, Loads, HandsOver, Sets, Reads};
+ghost use Rattle.pulse.specs.States.{reading_of};
+ghost use Rattle.pulse.specs.Steps.{end_of, Begins, Loads, HandsOver, Sets, Reads};
 ghost use Rattle.row.specs.Rows.{state_of};
 
-use crate::rounds::{begin_round, count_hand_over, deliver_to, take_next};
-use crate::row_lines::{end_of, put_on, take_off};
+use crate::houses::House;
 use crate::rows::Row;
 use carrier::{Carrier, Kind};
 use fault::Fault;
@@ -15,78 +15,76 @@ use quantity::{Quantity, Reading};
 impl<Q: Quantity, C: Carrier> Row<Q, C> {
     // Begins a round, unless one is open.
     pub fn begin(&mut self) -> Result<(), Fault>
-        ensures begins { Begins Q.Quantity.sense (state_of C.Carrier.meaning self.old) result (state_of C.Carrier.meaning self.new) }
+        ensures begins { Begins Q.sense (state_of C.meaning self.old) result (state_of C.meaning self.new) }
         ensures carrier { self.new.carrier ≡ self.old.carrier }
         ensures same { SameIfRefused self.old result self.new }
     {
-        if let Some(fault) = self.begin_refusal() {
-            return Err(fault);
-        }
-        let plan = self.plan;
-        let reading = self.readings[0];
-        begin_round::<Q>(&plan, reading, &mut self.round);
+        self.check_begin()?;
+        self.question.begin(&self.plan, self.readings[0]);
         Ok(())
     }
 
     // Moves the message that waits for the line onto it, a request before a response, and answers its kind.
     pub fn load(&mut self, line: usize) -> Result<Kind, Fault>
-        ensures loads { Loads (C.Carrier.meaning self.old.carrier).capacity (state_of C.Carrier.meaning self.old) line result (state_of C.Carrier.meaning self.new) }
-        ensures capacity { (C.Carrier.meaning self.new.carrier).capacity ≡ (C.Carrier.meaning self.old.carrier).capacity }
+        ensures loads { Loads (C.meaning self.old.carrier).capacity (state_of C.meaning self.old) line result (state_of C.meaning self.new) }
+        ensures capacity { (C.meaning self.new.carrier).capacity ≡ (C.meaning self.old.carrier).capacity }
         ensures same { SameIfRefused self.old result self.new }
     {
-        if let Some(fault) = self.load_refusal(line) {
-            return Err(fault);
-        }
-        let message = take_next(&mut self.round, line);
-        put_on(&mut self.carrier, line, message);
+        self.check_load(line)?;
+        let message = self.question.take_next(line);
+        self.carrier.put(line, message).unwrap();
         Ok(message.kind())
     }
 
     // Takes a message off the line for the house at its end, and answers its kind and that house.
     pub fn hand_over(&mut self, line: usize) -> Result<Delivery, Fault>
-        ensures hands { HandsOver Q.Quantity.sense (state_of C.Carrier.meaning self.old) line result (state_of C.Carrier.meaning self.new) }
-        ensures capacity { (C.Carrier.meaning self.new.carrier).capacity ≡ (C.Carrier.meaning self.old.carrier).capacity }
+        ensures hands { HandsOver Q.sense (state_of C.meaning self.old) line result (state_of C.meaning self.new) }
+        ensures capacity { (C.meaning self.new.carrier).capacity ≡ (C.meaning self.old.carrier).capacity }
         ensures same { SameIfRefused self.old result self.new }
     {
-        if let Some(fault) = self.hand_over_refusal(line) {
-            return Err(fault);
-        }
-        let plan = self.plan;
-        let house = end_of(&plan, line);
-        let reading = self.readings[house];
-        let message = take_off(&mut self.carrier, line);
-        deliver_to::<Q>(&plan, house, reading, message, &mut self.round);
-        count_hand_over(&mut self.round);
+        self.check_hand_over(line)?;
+        let message = self.carrier.take(line).unwrap();
+        let house = self.house_at_end(line);
+        self.question.deliver(&self.plan, house, message);
+        self.question.count_hand_over();
         Ok(Delivery {
             kind: message.kind(),
-            house,
+            house: house.number,
         })
     }
 
     // Replaces a house's reading.
     pub fn set(&mut self, house: usize, reading: Reading) -> Result<(), Fault>
-        ensures sets { Sets (state_of C.Carrier.meaning self.old) house reading result (state_of C.Carrier.meaning self.new) }
+        ensures sets { Sets (state_of C.meaning self.old) house reading result (state_of C.meaning self.new) }
         ensures carrier { self.new.carrier ≡ self.old.carrier }
         ensures same { SameIfRefused self.old result self.new }
     {
-        if let Some(fault) = self.set_refusal(house, reading) {
-            return Err(fault);
-        }
+        self.check_set(house, reading)?;
         self.readings[house] = reading;
         Ok(())
     }
 
     // The final figures of the answer, and the number of hand-overs accepted since begin.
     pub fn read(&self) -> Result<Report<Q::Figures>, Fault>
-        ensures { Reads Q.Quantity.sense (state_of C.Carrier.meaning self.now) result (state_of C.Carrier.meaning self.now) }
+        ensures { Reads Q.sense (state_of C.meaning self.now) result (state_of C.meaning self.now) }
     {
-        if let Some(fault) = self.read_refusal() {
-            return Err(fault);
-        }
-        let head = self.round.houses[0];
+        self.check_read()?;
         Ok(Report {
-            figures: Q::figures(head.holding),
-            hand_overs: self.round.hand_overs,
+            figures: Q::figures(self.question.head().holding),
+            hand_overs: self.question.round.hand_overs,
         })
+    }
+
+    // The house at the end of the line, with its reading.
+    fn house_at_end(&self, line: usize) -> House
+        requires { line < self.now.plan.draft.lines }
+        ensures number { result.number ≡ end_of (state_of C.meaning self.now) line }
+        ensures reading { result.reading ≡ reading_of (state_of C.meaning self.now) result.number }
+    {
+        let number = self.plan.line(line).unwrap().to as usize;
+        House {
+            number,
+            reading: self.readings[number],
+        }
     }
 }

@@ -1,35 +1,41 @@
-ghost use Rattle.std.specs.Prelude.{◌≡◌, true, [], replicate, MatchBool};
-ghost use Rattle.row.specs.Rows.{state_of, new_state, Fits};
+ghost use Rattle.std.specs.Prelude.{◌≡◌, true, [], MatchBool};
+ghost use Rattle.row.specs.Rows.{state_of, new_state, AllEmpty, Fits};
 ghost use Rattle.row.specs.Runs.{LedTo};
-ghost use Rattle.quantity.specs.Readings.{blank_reading};
 
-use crate::rounds::no_round;
-use crate::row_lines::is_fit;
+use crate::questions::Question;
 use crate::rows::Row;
 use carrier::Carrier;
 use plan::Plan;
 use quantity::{Quantity, Reading};
 
-fn blank_readings() -> [Reading; 48]
-    ensures { result ≡ replicate 48 blank_reading }
+// Whether every line of the carrier is empty.
+fn all_empty<C: Carrier>(carrier: &C) -> bool
+    ensures { MatchBool result (AllEmpty (C.meaning carrier.now)) (AllEmpty (C.meaning carrier.now) → ⊥) }
 {
-    [Reading::blank(); 48]
+    (0..carrier.lines()).all(|line| carrier.count(line) == 0)
+}
+
+// Whether the carrier fits the plan: its lines and its capacity are the plan's, and every line is empty.
+fn is_fit<C: Carrier>(plan: &Plan, carrier: &C) -> bool
+    ensures { MatchBool result (Fits plan.now (C.meaning carrier.now)) (Fits plan.now (C.meaning carrier.now) → ⊥) }
+{
+    carrier.lines() == plan.lines() && carrier.capacity() == plan.capacity() && all_empty(carrier)
 }
 
 impl<Q: Quantity, C: Carrier> Row<Q, C> {
     // A row as it is made: every reading is blank, no round was begun, and nothing waits.
     pub fn new(plan: Plan, carrier: C) -> Row<Q, C>
-        ensures made { state_of C.Carrier.meaning result ≡ new_state Q.Quantity.sense plan result.fit (C.Carrier.meaning carrier) }
-        ensures fit { MatchBool result.fit (Fits plan (C.Carrier.meaning carrier)) (Fits plan (C.Carrier.meaning carrier) → ⊥) }
+        ensures made { state_of C.meaning result ≡ new_state Q.sense plan result.fit (C.meaning carrier) }
+        ensures fit { MatchBool result.fit (Fits plan (C.meaning carrier)) (Fits plan (C.meaning carrier) → ⊥) }
         ensures same { result.carrier ≡ carrier }
-        ensures start { result.fit ≡ true → LedTo Q.Quantity.sense C.Carrier.meaning [] result }
+        ensures start { result.fit ≡ true → LedTo Q.sense C.meaning [] result }
     {
         let fit = is_fit(&plan, &carrier);
         Row {
             plan,
             fit,
-            readings: blank_readings(),
-            round: no_round::<Q>(),
+            readings: [Reading::blank(); 48],
+            question: Question::new(),
             carrier,
         }
     }

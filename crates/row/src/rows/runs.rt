@@ -12,40 +12,28 @@ use quantity::Quantity;
 impl<Q: Quantity, C: Carrier> Row<Q, C> {
     // Makes one call.
     pub fn apply(&mut self, call: Call) -> Answer<Q::Figures>
-        ensures steps { Step Q.Quantity.sense (capacity_of C.Carrier.meaning self.old) (state_of C.Carrier.meaning self.old) call result (state_of C.Carrier.meaning self.new) }
-        ensures capacity { capacity_of C.Carrier.meaning self.new ≡ capacity_of C.Carrier.meaning self.old }
+        ensures steps { Step Q.sense (capacity_of C.meaning self.old) (state_of C.meaning self.old) call result (state_of C.meaning self.new) }
+        ensures capacity { capacity_of C.meaning self.new ≡ capacity_of C.meaning self.old }
         ensures same { SameUnlessAccepted self.old result self.new }
-        ensures law { KeepsLaw Q.Quantity.sense C.Carrier.meaning self.old (record { call = call; answer = result } ∷ []) self.new }
+        ensures law { KeepsLaw Q.sense C.meaning self.old (record { call = call; answer = result } ∷ []) self.new }
     {
         self.dispatch(call)
     }
 
     // Makes the calls in order, each on what the former left, and stores each answer in its exchange.
     pub fn perform(&mut self, exchanges: &mut [Exchange<Q::Figures>])
-        ensures performs { Performs Q.Quantity.sense C.Carrier.meaning self.old exchanges.old exchanges.new self.new }
-        ensures law { KeepsLaw Q.Quantity.sense C.Carrier.meaning self.old exchanges.new self.new }
+        ensures performs { Performs Q.sense C.meaning self.old exchanges.old exchanges.new self.new }
+        ensures law { KeepsLaw Q.sense C.meaning self.old exchanges.new self.new }
     {
-        for i in 0..exchanges.len() {
-            exchanges[i] = self.answered(exchanges[i]);
-        }
-    }
-
-    // The exchange with the answer that its call now gets.
-    fn answered(&mut self, exchange: Exchange<Q::Figures>) -> Exchange<Q::Figures>
-        ensures call { result.call ≡ exchange.call }
-        ensures steps { Step Q.Quantity.sense (capacity_of C.Carrier.meaning self.old) (state_of C.Carrier.meaning self.old) result.call result.answer (state_of C.Carrier.meaning self.new) }
-        ensures capacity { capacity_of C.Carrier.meaning self.new ≡ capacity_of C.Carrier.meaning self.old }
-    {
-        Exchange {
-            call: exchange.call,
-            answer: self.dispatch(exchange.call),
+        for exchange in exchanges.iter_mut() {
+            exchange.answer = self.dispatch(exchange.call);
         }
     }
 
     // The call by its name.
     fn dispatch(&mut self, call: Call) -> Answer<Q::Figures>
-        ensures steps { Step Q.Quantity.sense (capacity_of C.Carrier.meaning self.old) (state_of C.Carrier.meaning self.old) call result (state_of C.Carrier.meaning self.new) }
-        ensures capacity { capacity_of C.Carrier.meaning self.new ≡ capacity_of C.Carrier.meaning self.old }
+        ensures steps { Step Q.sense (capacity_of C.meaning self.old) (state_of C.meaning self.old) call result (state_of C.meaning self.new) }
+        ensures capacity { capacity_of C.meaning self.new ≡ capacity_of C.meaning self.old }
         ensures same { SameUnlessAccepted self.old result self.new }
     {
         match call {

@@ -5,16 +5,11 @@ use Rattle.row.specs.Runs.{capacity_of}
 use Rattle.row.proofs.KeepsLaw.{keeps_law, one_step}
 use Rattle.row.proofs.rows.Row.apply.Goals as goal
 
-pub returns : goal.returns
-returns g c =
+pub returns-clause-law : goal.returns-clause-law
+returns-clause-law g c =
     let q = g.Q.Quantity.sense in
     let meaning = g.C.Carrier.meaning in
     let before = c.args.self.now in
     let after = c.dispatch.new.self in
     let e : Exchange g.row.Q-Figures.Denot = record { call = c.args.call; answer = c.dispatch.result } in
-    record {
-      steps = c.dispatch.ensures.steps;
-      capacity = c.dispatch.ensures.capacity;
-      same = c.dispatch.ensures.same;
-      law = keeps_law q g.met.Q.Quantity.laws meaning before (e ∷ []) after (one_step q (capacity_of meaning before) e (state_of meaning before) (state_of meaning after) c.dispatch.ensures.steps) c.dispatch.ensures.capacity;
-    }
+    keeps_law q g.met.Q.Quantity.laws meaning before (e ∷ []) after (one_step q (capacity_of meaning before) e (state_of meaning before) (state_of meaning after) c.dispatch.ensures.steps) c.dispatch.ensures.capacity
