@@ -1,6 +1,9 @@
-ghost use Rattle.std.specs.Prelude.{◌≡◌};
+ghost use Rattle.std.specs.Prelude.{◌≡◌, Some};
 ghost use Rattle.fault.specs.Numbers.{number};
 ghost use Rattle.fault.specs.Layers.{refuser};
+ghost use Rattle.fault.specs.Shown.{layer_word};
+
+use std::fmt;
 
 // Every cause for which the box refuses, with the number that it prints.
 #[derive(Clone, Copy, PartialEq, Eq, Debug)]
@@ -82,5 +85,19 @@ impl Cause {
             | Cause::NoAnswer
             | Cause::ManyReadings => Layer::Row,
         }
+    }
+}
+
+impl fmt::Display for Layer {
+    ghost output = { λ layer. Some (layer_word layer) };
+
+    fn fmt<W: fmt::Write>(&self, f: &mut fmt::Formatter<W>) -> fmt::Result {
+        f.write_str(match self {
+            Layer::File => "file",
+            Layer::Marking => "marking",
+            Layer::Carrier => "carrier",
+            Layer::Row => "row",
+            Layer::Bench => "bench",
+        })
     }
 }
