@@ -1,5 +1,7 @@
-ghost use Rattle.std.specs.Prelude.{◌≡◌};
-ghost use Rattle.carrier.specs.Messages.{kind_number, kind_of};
+ghost use Rattle.std.specs.Prelude.{◌≡◌, Some};
+ghost use Rattle.carrier.specs.Messages.{kind_number, kind_word, kind_of};
+
+use std::fmt;
 
 // The two kinds of message, with their numbers.
 #[derive(Clone, Copy, PartialEq, Eq, Debug)]
@@ -20,6 +22,17 @@ impl Kind {
         ensures { result ≡ kind_number self }
     {
         self as u8
+    }
+}
+
+impl fmt::Display for Kind {
+    ghost output = { λ k. Some (kind_word k) };
+
+    fn fmt<W: fmt::Write>(&self, f: &mut fmt::Formatter<W>) -> fmt::Result {
+        match self {
+            Kind::Request => write!(f, "req"),
+            Kind::Response => write!(f, "resp"),
+        }
     }
 }
 
