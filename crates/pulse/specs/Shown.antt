@@ -1,16 +1,33 @@
--- How an answer is printed: ok and what was answered, or the refusal.
-use Rattle.std.specs.Prelude.{ℕ, List, ◌++◌, Some, None, Ok, Err, codes, decimal, Option, Result}
+-- How a call is printed: its letter and what it is given; and its answer: ok and what was answered, or the refusal. Words
+-- are parted by one space.
+use Rattle.std.specs.Prelude.{ℕ, List, ◌++◌, ℤ, Some, None, Ok, Err, codes, decimal, Option, Result}
+use Rattle.std.specs.Fmt.{signed_decimal}
 use Rattle.fault.specs.declared.faults.Fault.{Fault}
 use Rattle.fault.specs.Shown.{refusal}
+use Rattle.quantity.specs.declared.readings.Reading.{Reading}
 use Rattle.carrier.specs.declared.messages.Kind.{Kind}
+use Rattle.carrier.specs.Messages.{kind_word}
 use Rattle.pulse.specs.declared.calls.Answer.{Answer}
+use Rattle.pulse.specs.declared.calls.Call.{Call}
 use Rattle.pulse.specs.declared.calls.Delivery.{Delivery}
 use Rattle.pulse.specs.declared.calls.Report.{Report}
 
--- the word of a kind
-abbrev pub kind_word : Kind → List ℕ
-kind_word Kind.Request = codes "req"
-kind_word Kind.Response = codes "resp"
+-- a temperature, or - where there is none
+abbrev pub clamp_shown : Option ℤ → List ℕ
+clamp_shown None = codes "-"
+clamp_shown (Some t) = signed_decimal t
+
+-- probe, clamp, watts, flags
+abbrev pub reading_shown : Reading → List ℕ
+reading_shown r =
+    signed_decimal r.probe ++ (codes " " ++ (clamp_shown r.clamp ++ (codes " " ++ (decimal r.watts ++ (codes " " ++ decimal r.flags)))))
+
+abbrev pub call_shown : Call → List ℕ
+call_shown Call.Begin = codes "B"
+call_shown (Call.Load i) = codes "L " ++ decimal i
+call_shown (Call.HandOver i) = codes "H " ++ decimal i
+call_shown (Call.Set h r) = codes "S " ++ (decimal h ++ (codes " " ++ reading_shown r))
+call_shown Call.Read = codes "R"
 
 -- ok and nothing more
 abbrev pub done_shown : Result (Unit {0}) Fault → List ℕ

@@ -1,5 +1,6 @@
 -- What a trace tells. A trace is a list of exchanges, each a call with its answer; the state of the row is not looked at.
 use Rattle.std.specs.Prelude.{ℕ, suc, ◌+◌, Bool, true, false, cond, List, [], ◌∷◌, is_ok, Some, None, Ok, Err, Option, Result, ◌==◌}
+use Rattle.std.specs.Result.{result_err}
 use Rattle.fault.specs.declared.faults.Fault.{Fault}
 use Rattle.quantity.specs.declared.readings.Reading.{Reading}
 use Rattle.quantity.specs.Readings.{blank_reading}
@@ -34,6 +35,14 @@ accepted (Answer.Load r) = is_ok r
 accepted (Answer.HandOver r) = is_ok r
 accepted (Answer.Set r) = is_ok r
 accepted (Answer.Read r) = is_ok r
+
+-- why the call was refused; none if it was accepted
+abbrev pub refusal_of : {F : Type 0} → Answer F → Option Fault
+refusal_of (Answer.Begin r) = result_err r
+refusal_of (Answer.Load r) = result_err r
+refusal_of (Answer.HandOver r) = result_err r
+refusal_of (Answer.Set r) = result_err r
+refusal_of (Answer.Read r) = result_err r
 
 -- what hand over answered, if it was accepted
 abbrev pub delivered : Result Delivery Fault → Option Delivery

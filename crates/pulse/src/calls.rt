@@ -1,3 +1,6 @@
+ghost use Rattle.std.specs.Prelude.{◌≡◌};
+ghost use Rattle.pulse.specs.Traces.{refusal_of};
+
 use carrier::Kind;
 use fault::Fault;
 use quantity::Reading;
@@ -34,6 +37,20 @@ pub enum Answer<F> {
     HandOver(Result<Delivery, Fault>),
     Set(Result<(), Fault>),
     Read(Result<Report<F>, Fault>),
+}
+
+impl<F: Copy> Answer<F> {
+    // Why the call was refused; none if it was accepted.
+    pub fn refusal(&self) -> Option<Fault>
+        ensures { result ≡ refusal_of self.now }
+    {
+        match *self {
+            Answer::Begin(result) | Answer::Set(result) => result.err(),
+            Answer::Load(result) => result.err(),
+            Answer::HandOver(result) => result.err(),
+            Answer::Read(result) => result.err(),
+        }
+    }
 }
 
 // A call with its answer.

@@ -1,12 +1,12 @@
-// The rules of a round and the law of its runs: definitions and a theorem, with the types that they speak of and the text
-// of an answer.
+// The rules of a round and the law of its runs: definitions and a theorem, with the types that they speak of and the texts
+// of a call and its answer.
 #![tactic(auto)]
 
-mod answers;
 mod calls;
 mod law;
 mod mistakes;
 mod rounds;
+mod shown;
 
 pub use calls::{Answer, Call, Delivery, Exchange, Report};
 pub use law::{any_calls_run, runs_are_lawful};
