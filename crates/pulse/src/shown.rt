@@ -13,13 +13,12 @@ impl fmt::Display for Call {
             Call::Load(line) => write!(f, "L {line}"),
             Call::HandOver(line) => write!(f, "H {line}"),
             Call::Set(house, reading) => {
-                let probe = reading.probe;
-                let watts = reading.watts;
-                let flags = reading.flags;
+                write!(f, "S {house} {} ", reading.probe)?;
                 match reading.clamp {
-                    None => write!(f, "S {house} {probe} - {watts} {flags}"),
-                    Some(clamp) => write!(f, "S {house} {probe} {clamp} {watts} {flags}"),
+                    None => write!(f, "-")?,
+                    Some(clamp) => write!(f, "{clamp}")?,
                 }
+                write!(f, " {} {}", reading.watts, reading.flags)
             }
             Call::Read => write!(f, "R"),
         }
