@@ -1,5 +1,7 @@
 // A second judge of plan files, written apart from the library's and by another method: it keeps the houses that a
 // tree reaches as bits of a word, and grows that set round by round.
+ghost use Rattle.std.specs.Prelude.{◌<◌, ◌≤◌, IfSome, length};
+
 use fault::{Cause, Fault};
 
 const MARK: [u8; 3] = [0x52, 0x4F, 0x57];
@@ -16,6 +18,7 @@ enum Tree {
 struct Body<'a> {
     lines: &'a [[u8; 3]],
     counters: &'a [u8],
+    ghost few: { length lines.now ≤ 128 },
 }
 
 fn bit(house: u8) -> u64 {
@@ -34,7 +37,10 @@ impl Tree {
 }
 
 // Which byte of the line is its first that is wrong.
-fn wrong_byte([from, to, marks]: [u8; 3], houses: usize) -> Option<usize> {
+fn wrong_byte(line: [u8; 3], houses: usize) -> Option<usize>
+    ensures { IfSome result (λ byte. byte < 3) }
+{
+    let [from, to, marks] = line;
     [
         usize::from(from) >= houses,
         usize::from(to) >= houses || to == from,
@@ -78,31 +84,22 @@ impl<'a> Body<'a> {
 
     // Refuses the first wrong byte of a line.
     fn judge_lines(&self) -> Result<(), Fault> {
-        let mut at: usize = 9;
-        for line in self.lines {
+        for (i, line) in self.lines.iter().enumerate() {
             if let Some(byte) = wrong_byte(*line, self.counters.len()) {
-                return Err(Fault::new(Cause::WrongRecord, at.saturating_add(byte)));
+                return Err(Fault::new(Cause::WrongRecord, 9 + 3 * i + byte));
             }
-            at = at.saturating_add(3);
         }
         Ok(())
     }
 
-    // How many lines of the tree serve the house.
-    fn serving(&self, tree: Tree, house: u8) -> usize {
+    // How many lines of the tree serve a house and go on beyond it as the test says.
+    fn count<F: Fn(u8, u8) -> bool>(&self, tree: Tree, meets: F) -> usize
+        requires { F.IsAlwaysCallable meets }
+    {
         self.lines
             .iter()
             .filter_map(|line| tree.step(*line))
-            .filter(|(near, _)| *near == house)
-            .count()
-    }
-
-    // How many back lines enter the house.
-    fn entering(&self, house: u8) -> usize {
-        self.lines
-            .iter()
-            .filter_map(|line| Tree::Back.step(*line))
-            .filter(|(_, beyond)| *beyond == house)
+            .filter(|(near, beyond)| meets(*near, *beyond))
             .count()
     }
 
@@ -124,12 +121,12 @@ impl<'a> Body<'a> {
         seen
     }
 
-    // Refuses for the cause at the lowest house that does not keep its rule.
-    fn each_house<F: Fn(u8) -> bool>(&self, cause: Cause, keeps: F) -> Result<(), Fault>
-        requires { F.IsAlwaysCallable keeps }
+    // Refuses for the cause at the lowest house that, with its counter, does not pass the test.
+    fn each_house<F: Fn(u8, u8) -> bool>(&self, cause: Cause, passes: F) -> Result<(), Fault>
+        requires { F.IsAlwaysCallable passes }
     {
-        for (house, _) in (0..48).zip(self.counters) {
-            if !keeps(house) {
+        for (house, counter) in (0..48).zip(self.counters) {
+            if !passes(house, *counter) {
                 return Err(Fault::new(cause, usize::from(house)));
             }
         }
@@ -137,20 +134,18 @@ impl<'a> Body<'a> {
     }
 
     fn judge_tree(&self, tree: Tree, single: Cause, leading: Cause) -> Result<(), Fault> {
-        self.each_house(single, |house| {
-            self.serving(tree, house) == usize::from(house != 0)
+        self.each_house(single, |house, _| {
+            self.count(tree, |near, _| near == house) == usize::from(house != 0)
         })?;
         let reached = self.reached(tree);
-        self.each_house(leading, |house| reached & bit(house) != 0)
+        self.each_house(leading, |house, _| reached & bit(house) != 0)
     }
 
+    // A counter is the number of back lines that enter its house.
     fn judge_counters(&self) -> Result<(), Fault> {
-        for (house, counter) in (0..48).zip(self.counters) {
-            if self.entering(house) != usize::from(*counter) {
-                return Err(Fault::new(Cause::WrongCounter, usize::from(house)));
-            }
-        }
-        Ok(())
+        self.each_house(Cause::WrongCounter, |house, counter| {
+            self.count(Tree::Back, |_, beyond| beyond == house) == usize::from(counter)
+        })
     }
 }
 
