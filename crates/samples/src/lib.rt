@@ -2,11 +2,13 @@
 // and readings.
 #![tactic(auto)]
 
+mod edits;
 mod files;
 mod readings;
 mod sketches;
 mod sources;
 
+pub use edits::edited;
 pub use files::{LONGEST, ONE_HOUSE, TERRACE, TWO_HOUSES};
 pub use readings::Spread;
 pub use sketches::Sketch;

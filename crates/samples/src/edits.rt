@@ -1,0 +1,23 @@
+ghost use Rattle.std.specs.Prelude.{◌≡◌, IfOk};
+ghost use Rattle.samples.specs.Edits.{with_bytes, sized};
+
+use std::alloc::{AllocError, Global};
+
+// The file with those bytes changed, and then cut or made longer with zeros to that length.
+pub fn edited(
+    alloc: Global,
+    file: &[u8],
+    edits: &[(usize, u8)],
+    length: usize,
+) -> Result<Vec<u8>, AllocError>
+    ensures { IfOk result (λ v. v.items ≡ sized length (with_bytes edits.now file.now)) }
+{
+    let mut bytes = Vec::from_slice(alloc, file)?;
+    for (place, value) in edits {
+        if *place < bytes.len() {
+            bytes[*place] = *value;
+        }
+    }
+    bytes.resize(length, 0)?;
+    Ok(bytes)
+}
