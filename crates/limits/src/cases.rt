@@ -2,8 +2,7 @@
 use crate::second::judged;
 use fault::Fault;
 use plan::{Plan, read};
-use samples::{LONGEST, ONE_HOUSE, TERRACE, TWO_HOUSES};
-use std::alloc::{AllocError, Global};
+use samples::{LONGEST, ONE_HOUSE, TERRACE, TWO_HOUSES, edited};
 use std::io;
 
 // A name, an accepted file, the bytes that are changed in it, and the length that it is then given.
@@ -104,23 +103,6 @@ const RULES: [Case; 8] = [
 pub fn first(file: &[u8]) -> Result<(), Fault> {
     let mut place = Plan::new();
     read(file, &mut place)
-}
-
-// The base with those bytes changed, at that length.
-fn edited(
-    heap: Global,
-    base: &[u8],
-    edits: &[(usize, u8)],
-    length: usize,
-) -> Result<Vec<u8>, AllocError> {
-    let mut file = Vec::from_slice(heap, base)?;
-    for (place, value) in edits {
-        if let Some(byte) = file.get_mut(*place) {
-            *byte = *value;
-        }
-    }
-    file.resize(length, 0)?;
-    Ok(file)
 }
 
 // Prints what the library says of the case's file, and says so where the second judge says something else.
