@@ -4,7 +4,7 @@ use carrier::{Carrier, Message, Radio, Wire};
 use fault::{Fault, Layer};
 use plan::{Plan, read};
 use quantity::Word;
-use samples::{LONGEST, TERRACE, TWO_HOUSES};
+use samples::{LONGEST, TERRACE, TWO_HOUSES, edited};
 use std::alloc::{AllocError, Global};
 use std::io;
 
@@ -23,10 +23,7 @@ const NOTHING: u64 = 9;
 
 // The plan of the file with that capacity.
 fn plan_of(heap: Global, base: &[u8], capacity: u8) -> Result<Plan, AllocError> {
-    let mut file = Vec::from_slice(heap, base)?;
-    if let Some(byte) = file.get_mut(8) {
-        *byte = capacity;
-    }
+    let file = edited(heap, base, &[(8, capacity)], base.len())?;
     let mut place = Plan::new();
     let _ = read(file.as_slice(), &mut place);
     Ok(place)
