@@ -21,3 +21,18 @@ pub fn edited(
     bytes.resize(length, 0)?;
     Ok(bytes)
 }
+
+#[cfg(test)]
+mod tests {
+    use super::*;
+    use std::test::Fail;
+
+    #[test]
+    fn changed_cut_and_longer(rt: HostRuntime) -> Result<(), Fail> {
+        let cut = edited(rt.alloc(), &[1, 2, 3], &[(0, 7), (3, 8)], 2)?;
+        assert_eq!(rt; cut.as_slice(), [7, 2].as_slice());
+        let longer = edited(rt.alloc(), &[1, 2, 3], &[(2, 7), (2, 9)], 5)?;
+        assert_eq!(rt; longer.as_slice(), [1, 2, 9, 0, 0].as_slice());
+        Ok(())
+    }
+}
