@@ -1,167 +1,159 @@
-ghost use Rattle.std.specs.Prelude.{◌<◌};
-
 // A second judge of plan files, written apart from the library's and by another method: it keeps the houses that a
 // tree reaches as bits of a word, and grows that set round by round.
+ghost use Rattle.std.specs.Prelude.{◌<◌, ◌≤◌, IfSome, length};
 
-// A refusal's number and place.
-#[derive(Clone, Copy, PartialEq, Eq, Debug)]
-pub struct Refusal {
-    pub number: usize,
-    pub place: usize,
+use fault::{Cause, Fault};
+
+const MARK: [u8; 3] = [0x52, 0x4F, 0x57];
+
+// The two trees.
+#[derive(Clone, Copy)]
+enum Tree {
+    Direct,
+    Back,
 }
 
-fn refused_by(number: usize, place: usize) -> Option<Refusal> {
-    Some(Refusal { number, place })
+// A file behind its header: three bytes for each line, and a counter for each house.
+#[derive(Clone, Copy)]
+struct Body<'a> {
+    lines: &'a [[u8; 3]],
+    counters: &'a [u8],
+    ghost few: { length lines.now ≤ 128 },
 }
 
-fn byte(file: &[u8], i: usize) -> usize
-    ensures { result < 256 }
-{
-    match file.get(i) {
-        Some(b) => *b as usize,
-        None => 0,
-    }
-}
-
-fn bit(house: usize) -> u64 {
+fn bit(house: u8) -> u64 {
     if house < 64 { 1 << house } else { 0 }
 }
 
-// The first refusal of the file, or none where it is accepted.
-pub fn judged(file: &[u8]) -> Option<Refusal> {
-    let length = file.len();
-    if length < 9 {
-        return refused_by(1, length);
-    }
-    for (i, mark) in [0x52, 0x4F, 0x57].iter().enumerate() {
-        if byte(file, i) != *mark {
-            return refused_by(2, i);
+impl Tree {
+    // The house that the line serves and the one beyond it, where the line has the tree's mark.
+    fn step(self, [from, to, marks]: [u8; 3]) -> Option<(u8, u8)> {
+        match self {
+            Tree::Direct if marks & 1 != 0 => Some((to, from)),
+            Tree::Back if marks & 2 != 0 => Some((from, to)),
+            _ => None,
         }
-    }
-    if byte(file, 3) != 0 || byte(file, 4) != 1 {
-        return refused_by(3, 3);
-    }
-    let houses = byte(file, 5);
-    let lines = byte(file, 6) * 256 + byte(file, 7);
-    if houses == 0 || houses > 48 {
-        return refused_by(4, 5);
-    }
-    if lines > 128 {
-        return refused_by(4, 6);
-    }
-    if byte(file, 8) == 0 || byte(file, 8) > 4 {
-        return refused_by(4, 8);
-    }
-    if length != 9 + 3 * lines + houses {
-        return refused_by(5, length);
-    }
-    match wrong_byte(file, houses, lines) {
-        Some(place) => refused_by(6, place),
-        None => broken_rule(file, houses, lines),
     }
 }
 
-fn wrong_byte(file: &[u8], houses: usize, lines: usize) -> Option<usize> {
-    for place in 9..9usize.saturating_add(lines.saturating_mul(3)) {
-        let x = byte(file, place);
-        let wrong = match place % 3 {
-            0 => x >= houses,
-            1 => x >= houses || x == byte(file, place - 1),
-            _ => x > 3,
+// Which byte of the line is its first that is wrong.
+fn wrong_byte(line: [u8; 3], houses: usize) -> Option<usize>
+    ensures { IfSome result (λ byte. byte < 3) }
+{
+    let [from, to, marks] = line;
+    [
+        usize::from(from) >= houses,
+        usize::from(to) >= houses || to == from,
+        marks > 3,
+    ]
+    .iter()
+    .position(|wrong| *wrong)
+}
+
+impl<'a> Body<'a> {
+    // The part of the file behind a header that is right.
+    fn of(file: &'a [u8]) -> Result<Body<'a>, Fault> {
+        let Some((header, rest)) = file.split_first_chunk::<9>() else {
+            return Err(Fault::new(Cause::FileShort, file.len()));
         };
-        if wrong {
-            return Some(place);
+        if let Some(place) = header.iter().zip(MARK.iter()).position(|(b, m)| *b != *m) {
+            return Err(Fault::new(Cause::WrongMark, place));
         }
-    }
-    None
-}
-
-// How many lines with that mark have the house at that byte of their record.
-fn count(file: &[u8], lines: usize, mark: usize, end: usize, house: usize) -> usize {
-    let mut count = 0usize;
-    for i in 0..lines {
-        let record = i.saturating_mul(3).saturating_add(9);
-        let marked = byte(file, record.saturating_add(2)) & mark != 0;
-        if marked && byte(file, record.saturating_add(end)) == house {
-            count = count.saturating_add(1);
+        let [_, _, _, high, low, houses, m_high, m_low, capacity] = *header;
+        if u16::from_be_bytes([high, low]) != 1 {
+            return Err(Fault::new(Cause::WrongVersion, 3));
         }
+        let lines = u16::from_be_bytes([m_high, m_low]);
+        if !matches!(houses, 1..=48) {
+            return Err(Fault::new(Cause::BeyondLimits, 5));
+        }
+        if lines > 128 {
+            return Err(Fault::new(Cause::BeyondLimits, 6));
+        }
+        if !matches!(capacity, 1..=4) {
+            return Err(Fault::new(Cause::BeyondLimits, 8));
+        }
+        let records = 3 * usize::from(lines);
+        if rest.len() != records + usize::from(houses) {
+            return Err(Fault::new(Cause::WrongLength, file.len()));
+        }
+        let (records, counters) = rest.split_at(records);
+        let (lines, _) = records.as_chunks::<3>();
+        Ok(Body { lines, counters })
     }
-    count
-}
 
-// The houses that lines with that mark lead to the head from, within n - 1 steps.
-fn reached(file: &[u8], houses: usize, lines: usize, mark: usize, near: usize) -> u64 {
-    let mut seen = 1u64;
-    for _ in 1..houses {
-        let before = seen;
-        for i in 0..lines {
-            let record = i.saturating_mul(3).saturating_add(9);
-            let marked = byte(file, record.saturating_add(2)) & mark != 0;
-            let far = byte(file, record.saturating_add(1usize.saturating_sub(near)));
-            if marked && before & bit(far) != 0 {
-                seen = seen | bit(byte(file, record.saturating_add(near)));
+    // Refuses the first wrong byte of a line.
+    fn judge_lines(&self) -> Result<(), Fault> {
+        for (i, line) in self.lines.iter().enumerate() {
+            if let Some(byte) = wrong_byte(*line, self.counters.len()) {
+                return Err(Fault::new(Cause::WrongRecord, 9 + 3 * i + byte));
             }
         }
+        Ok(())
     }
-    seen
-}
 
-fn lowest_wrong_count(
-    file: &[u8],
-    houses: usize,
-    lines: usize,
-    mark: usize,
-    near: usize,
-) -> Option<usize> {
-    for house in 0..houses {
-        let due = if house == 0 { 0 } else { 1 };
-        if count(file, lines, mark, near, house) != due {
-            return Some(house);
+    // How many lines of the tree serve a house and go on beyond it as the test says.
+    fn count<F: Fn(u8, u8) -> bool>(&self, tree: Tree, meets: F) -> usize
+        requires { F.IsAlwaysCallable meets }
+    {
+        self.lines
+            .iter()
+            .filter_map(|line| tree.step(*line))
+            .filter(|(near, beyond)| meets(*near, *beyond))
+            .count()
+    }
+
+    // Those houses, and the ones that a line of the tree joins to one of them.
+    fn grown(&self, tree: Tree, seen: u64) -> u64 {
+        self.lines
+            .iter()
+            .filter_map(|line| tree.step(*line))
+            .filter(|(_, beyond)| seen & bit(*beyond) != 0)
+            .fold(seen, |all, (near, _)| all | bit(near))
+    }
+
+    // The houses that the tree joins to the head, within n - 1 steps.
+    fn reached(&self, tree: Tree) -> u64 {
+        let mut seen = 1;
+        for _ in 1..self.counters.len() {
+            seen = self.grown(tree, seen);
         }
+        seen
     }
-    None
-}
 
-fn lowest_missing(seen: u64, houses: usize) -> Option<usize> {
-    for house in 0..houses {
-        if seen & bit(house) == 0 {
-            return Some(house);
+    // Refuses for the cause at the lowest house that, with its counter, does not pass the test.
+    fn each_house<F: Fn(u8, u8) -> bool>(&self, cause: Cause, passes: F) -> Result<(), Fault>
+        requires { F.IsAlwaysCallable passes }
+    {
+        for (house, counter) in (0..48).zip(self.counters) {
+            if !passes(house, *counter) {
+                return Err(Fault::new(cause, usize::from(house)));
+            }
         }
+        Ok(())
     }
-    None
+
+    fn judge_tree(&self, tree: Tree, single: Cause, leading: Cause) -> Result<(), Fault> {
+        self.each_house(single, |house, _| {
+            self.count(tree, |near, _| near == house) == usize::from(house != 0)
+        })?;
+        let reached = self.reached(tree);
+        self.each_house(leading, |house, _| reached & bit(house) != 0)
+    }
+
+    // A counter is the number of back lines that enter its house.
+    fn judge_counters(&self) -> Result<(), Fault> {
+        self.each_house(Cause::WrongCounter, |house, counter| {
+            self.count(Tree::Back, |_, beyond| beyond == house) == usize::from(counter)
+        })
+    }
 }
 
-fn lowest_wrong_counter(file: &[u8], houses: usize, lines: usize) -> Option<usize> {
-    for house in 0..houses {
-        let counter = byte(
-            file,
-            lines
-                .saturating_mul(3)
-                .saturating_add(9)
-                .saturating_add(house),
-        );
-        if counter != count(file, lines, 2, 1, house) {
-            return Some(house);
-        }
-    }
-    None
-}
-
-fn broken_rule(file: &[u8], houses: usize, lines: usize) -> Option<Refusal> {
-    if let Some(house) = lowest_wrong_count(file, houses, lines, 1, 1) {
-        return refused_by(7, house);
-    }
-    if let Some(house) = lowest_missing(reached(file, houses, lines, 1, 1), houses) {
-        return refused_by(8, house);
-    }
-    if let Some(house) = lowest_wrong_count(file, houses, lines, 2, 0) {
-        return refused_by(9, house);
-    }
-    if let Some(house) = lowest_missing(reached(file, houses, lines, 2, 0), houses) {
-        return refused_by(10, house);
-    }
-    match lowest_wrong_counter(file, houses, lines) {
-        Some(house) => refused_by(11, house),
-        None => None,
-    }
+// The first refusal of the file, if it is not accepted.
+pub fn judged(file: &[u8]) -> Result<(), Fault> {
+    let body = Body::of(file)?;
+    body.judge_lines()?;
+    body.judge_tree(Tree::Direct, Cause::DirectIn, Cause::DirectWay)?;
+    body.judge_tree(Tree::Back, Cause::BackOut, Cause::BackWay)?;
+    body.judge_counters()
 }

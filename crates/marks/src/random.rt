@@ -1,80 +1,69 @@
 // Pseudo-random files in form, marked by the library and by the second marker.
-use crate::cases::Answers;
-use crate::files::File;
+use crate::shown::Answers;
 use fault::Cause;
+use lines::{Line, Marks};
+use samples::{Sketch, Source};
+use std::alloc::{AllocError, Global};
 use std::io;
 
 const FILES: usize = 4_000;
 
-// A linear congruential generator; its upper bits are drawn.
-#[derive(Clone, Copy)]
-struct Source {
-    state: u64,
+// A number below the limit, by the upper byte of what is drawn.
+fn below(source: &mut Source, limit: u8) -> u8 {
+    (source.below(256 * u16::from(limit)) / 256) as u8
 }
 
-impl Source {
-    // A number below the limit.
-    fn below(&mut self, limit: u8) -> u8 {
-        self.state = self
-            .state
-            .wrapping_mul(6_364_136_223_846_793_005)
-            .wrapping_add(1_442_695_040_888_963_407);
-        let high = (self.state >> 56) as u8;
-        high.checked_rem(limit).unwrap_or(0)
-    }
+// Joins two houses at random, where there are two.
+fn join(source: &mut Source, sketch: &mut Sketch) -> Result<(), AllocError> {
+    let from = below(source, sketch.houses);
+    let to = below(source, sketch.houses);
+    sketch.join(from, to)
+}
 
-    // Joins two houses at random, where there are two.
-    fn join(&mut self, file: &mut File, houses: u8) {
-        let from = self.below(houses);
-        let to = self.below(houses);
-        if from != to {
-            file.join(from, to);
+// Gives each house but the head a way from it, over lower houses, and those below some house a way to it.
+fn join_all(source: &mut Source, sketch: &mut Sketch) -> Result<(), AllocError> {
+    let end = below(source, 96);
+    for house in 1..sketch.houses {
+        let from = below(source, house);
+        let to = below(source, house);
+        sketch.join(from, house)?;
+        if house < end {
+            sketch.join(house, to)?;
         }
     }
+    Ok(())
+}
 
-    // Gives each house but the head a way from it, over lower houses, and those below some house a way to it.
-    fn join_all(&mut self, file: &mut File, houses: u8) {
-        let end = self.below(96);
-        for house in 1..houses {
-            let from = self.below(house);
-            let to = self.below(house);
-            file.join(from, house);
-            if house < end {
-                file.join(house, to);
-            }
+// Numbers the lines anew, and gives them marks at random.
+fn shuffle(source: &mut Source, lines: &mut [Line]) {
+    for line in 0..lines.len() {
+        let other = usize::from(below(source, 128));
+        if other < line {
+            lines.swap(line, other);
         }
+        let marks = below(source, 4);
+        lines[line].marks = Marks::of(marks & 1 != 0, marks & 2 != 0);
     }
+}
 
-    // Numbers the lines anew, and gives lines and houses marks and counters at random.
-    fn shuffle(&mut self, file: &mut File) {
-        for line in 0..file.lines() {
-            let other = usize::from(self.below(128));
-            if other < line {
-                file.swap(line, other);
-            }
-            file.set_marks(line, self.below(4));
-        }
-        for house in 0..file.houses() {
-            file.set_counter(house, self.below(48));
-        }
+fn next_file(heap: Global, source: &mut Source) -> Result<Vec<u8>, AllocError> {
+    let mut sketch = Sketch::row(heap, below(source, 48).saturating_add(1))?;
+    if below(source, 2) == 0 {
+        join_all(source, &mut sketch)?;
     }
-
-    fn file(&mut self) -> File {
-        let houses = self.below(48).saturating_add(1);
-        let mut file = File::row(houses);
-        if self.below(2) == 0 {
-            self.join_all(&mut file, houses);
-        }
-        for _ in 0..self.below(160) {
-            self.join(&mut file, houses);
-        }
-        self.shuffle(&mut file);
-        file.with(8, self.below(4).saturating_add(1))
+    for _ in 0..below(source, 160) {
+        join(source, &mut sketch)?;
     }
+    shuffle(source, sketch.lines.as_mut_slice());
+    for counter in sketch.counters.iter_mut() {
+        *counter = below(source, 48);
+    }
+    sketch.capacity = below(source, 4).saturating_add(1);
+    sketch.file(heap)
 }
 
 // How many files were marked, how many refused by 12, by 13 and by another number, and on how many the markers differ.
-#[derive(Clone, Copy)]
+#[derive(Default, Drop)]
 struct Tally {
     marked: usize,
     from_head: usize,
@@ -84,18 +73,8 @@ struct Tally {
 }
 
 impl Tally {
-    fn new() -> Tally {
-        Tally {
-            marked: 0,
-            from_head: 0,
-            to_head: 0,
-            other: 0,
-            differ: 0,
-        }
-    }
-
     fn add(&mut self, answers: &Answers) {
-        let kind = match answers.first {
+        let kind = match &answers.first {
             Ok(_) => &mut self.marked,
             Err(fault) => match fault.cause {
                 Cause::NoWayFromHead => &mut self.from_head,
@@ -112,16 +91,18 @@ impl Tally {
 
 pub fn random_files(rt: &HostRuntime) -> io::Result<()> {
     let mut source = Source { state: 1 };
-    let mut tally = Tally::new();
+    let mut tally = Tally::default();
     for _ in 0..FILES {
-        let file = source.file();
-        tally.add(&Answers::of(&file));
+        let file = next_file(rt.alloc(), &mut source)?;
+        tally.add(&Answers::of(rt.alloc(), file.as_slice())?);
     }
-    let marked = tally.marked;
-    let from_head = tally.from_head;
-    let to_head = tally.to_head;
-    let other = tally.other;
-    let differ = tally.differ;
+    let Tally {
+        marked,
+        from_head,
+        to_head,
+        other,
+        differ,
+    } = tally;
     println!(rt; "random files: {FILES}, {marked} marked")?;
     println!(rt;
         "random files: {from_head} refused by 12, {to_head} by 13, {other} by another number"

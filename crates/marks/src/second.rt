@@ -1,117 +1,121 @@
 // A second marker, written apart from the library's and by another method: it tries every line n times in a table of
 // distances, lowering what it finds too high, and marks the bytes of the file. The form is left to the reader of form.
-use crate::files::File;
-use fault::{Cause, Fault};
+use crate::bodies::Body;
+use crate::trees::Tree;
+use fault::Fault;
 use plan::Draft;
 
-// Stands for a house that nothing reaches.
-const FAR: usize = 48;
+// For each house how many lines it is away from the head, if anything reaches it.
+type Distances = [Option<usize>; 48];
 
-type Distances = [usize; 48];
+// For each house the line that leads it one step nearer.
+type Servers = [Option<usize>; 48];
 
-// One of the two trees: the end of a line at the house that it serves, the end towards the head, the mark, and the
-// refusal of a house that has no way.
-#[derive(Clone, Copy)]
-pub struct Tree {
-    pub own: usize,
-    nearer: usize,
-    pub mark: u8,
-    cause: Cause,
+fn distance(table: &Distances, house: usize) -> Option<usize> {
+    table.get(house).copied().flatten()
 }
 
-pub const DIRECT: Tree = Tree {
-    own: 1,
-    nearer: 0,
-    mark: 1,
-    cause: Cause::NoWayFromHead,
-};
-
-pub const BACK: Tree = Tree {
-    own: 0,
-    nearer: 1,
-    mark: 2,
-    cause: Cause::NoWayToHead,
-};
-
-fn distance(table: &Distances, house: usize) -> usize {
-    if house < 48 { table[house] } else { FAR }
-}
-
-// Lowers the distance of the house at the line's own end to one more than that of the other end.
-fn relax(file: &File, tree: Tree, line: usize, table: &mut Distances) {
-    let own = file.end(line, tree.own);
-    let found = distance(table, file.end(line, tree.nearer)).saturating_add(1);
-    if own < 48 && found < table[own] {
-        table[own] = found;
+// Lowers the distance of the house that the line would serve to one more than that of the house beyond.
+fn relax(table: &mut Distances, (own, beyond): (usize, usize)) {
+    let Some(steps) = distance(table, beyond) else {
+        return;
+    };
+    let found = steps.saturating_add(1);
+    if let Some(known) = table.get_mut(own)
+        && known.is_none_or(|least| found < least)
+    {
+        *known = Some(found);
     }
 }
 
-fn distances(file: &File, tree: Tree) -> Distances {
-    let mut table = [FAR; 48];
-    table[0] = 0;
-    for _ in 0..file.houses() {
-        for line in 0..file.lines() {
-            relax(file, tree, line, &mut table);
-        }
+fn relax_all(table: &mut Distances, lines: &[[u8; 3]], tree: Tree) {
+    for line in lines {
+        relax(table, tree.ends(*line));
+    }
+}
+
+fn distances(body: Body<'_>, tree: Tree) -> Distances {
+    let mut table = [None; 48];
+    table[0] = Some(0);
+    for _ in body.counters {
+        relax_all(&mut table, body.lines, tree);
     }
     table
 }
 
-// Whether the line joins the house to one that is one step nearer.
-fn leads(file: &File, tree: Tree, table: &Distances, line: usize, house: usize) -> bool {
-    let next = distance(table, file.end(line, tree.nearer));
-    file.end(line, tree.own) == house && next.saturating_add(1) == distance(table, house)
+// The lowest line that leads the house one step nearer.
+fn server(lines: &[[u8; 3]], tree: Tree, table: &Distances, house: usize) -> Option<usize> {
+    let due = distance(table, house);
+    lines.iter().position(|line| {
+        let (own, beyond) = tree.ends(*line);
+        own == house && distance(table, beyond).map(|steps| steps.saturating_add(1)) == due
+    })
 }
 
-// Marks the lowest line that leads the house one step nearer.
-fn mark_house(file: &mut File, tree: Tree, table: &Distances, house: usize) {
-    for line in 0..file.lines() {
-        if leads(file, tree, table, line, house) {
-            let marks = file.marks(line);
-            file.set_marks(line, marks | tree.mark);
-            return;
+// Refuses a house that has no way.
+fn servers(body: Body<'_>, tree: Tree) -> Result<Servers, Fault> {
+    let table = distances(body, tree);
+    let mut servers = [None; 48];
+    for (house, _) in body.counters.iter().enumerate().skip(1) {
+        if distance(&table, house).is_none() {
+            return Err(Fault::new(tree.cause(), house));
+        }
+        if let Some(found) = servers.get_mut(house) {
+            *found = server(body.lines, tree, &table, house);
         }
     }
+    Ok(servers)
 }
 
-fn mark_tree(file: &mut File, tree: Tree) -> Result<(), Fault> {
-    let table = distances(file, tree);
-    for house in 1..file.houses() {
-        if distance(&table, house) == FAR {
-            return Err(Fault::new(tree.cause, house));
-        }
-        mark_house(file, tree, &table, house);
-    }
-    Ok(())
-}
-
-fn clear(file: &mut File) {
-    for line in 0..file.lines() {
-        file.set_marks(line, 0);
-    }
-    for house in 0..file.houses() {
-        file.set_counter(house, 0);
+// What the tree adds to the marks of the line.
+fn mark_of(servers: &Servers, tree: Tree, line: usize) -> u8 {
+    if servers.contains(&Some(line)) {
+        tree.mark()
+    } else {
+        0
     }
 }
 
-// Adds each back line to the counter of the house that it enters.
-fn count(file: &mut File) {
-    for line in 0..file.lines() {
-        if file.marks(line) & BACK.mark != 0 {
-            let house = file.end(line, BACK.nearer);
-            let counter = file.counter(house);
-            file.set_counter(house, counter.saturating_add(1));
+// For each house how many of the back lines enter it.
+fn counters(lines: &[[u8; 3]], back: &Servers) -> [u8; 48] {
+    let mut counters = [0u8; 48];
+    for (number, line) in lines.iter().enumerate() {
+        let (_, beyond) = Tree::Back.ends(*line);
+        if let Some(counter) = counters.get_mut(beyond)
+            && back.contains(&Some(number))
+        {
+            *counter = counter.saturating_add(1);
         }
     }
+    counters
 }
 
-// The file marked anew, or why it is refused.
-pub fn marked(file: &File) -> Result<File, Fault> {
-    let _ = Draft::read(file.part())?;
-    let mut copy = *file;
-    clear(&mut copy);
-    mark_tree(&mut copy, DIRECT)?;
-    mark_tree(&mut copy, BACK)?;
-    count(&mut copy);
-    Ok(copy)
+// The first byte of a line's record.
+fn record(line: usize) -> usize {
+    line.saturating_mul(3).saturating_add(9)
+}
+
+fn write_marks(file: &mut [u8], lines: usize, direct: &Servers, back: &Servers) {
+    for (line, marks) in file.iter_mut().skip(11).step_by(3).take(lines).enumerate() {
+        *marks = mark_of(direct, Tree::Direct, line) | mark_of(back, Tree::Back, line);
+    }
+}
+
+fn write_counters(file: &mut [u8], lines: usize, counters: &[u8]) {
+    for (byte, counter) in file.iter_mut().skip(record(lines)).zip(counters) {
+        *byte = *counter;
+    }
+}
+
+// Marks the file anew, and gives its length, or refuses it and leaves it as it was.
+pub fn mark(file: &mut [u8]) -> Result<usize, Fault> {
+    let _ = Draft::read(file)?;
+    let body = Body::of(file);
+    let lines = body.lines.len();
+    let direct = servers(body, Tree::Direct)?;
+    let back = servers(body, Tree::Back)?;
+    let counters = counters(body.lines, &back);
+    write_marks(file, lines, &direct, &back);
+    write_counters(file, lines, &counters);
+    Ok(file.len())
 }

@@ -1,10 +1,11 @@
 // Both makes of carrier on the same puts, and both sides of each limit of a line. A message is printed as a figure:
 // 0 for a request, its word for a response.
-use crate::files::{LONGEST, LONGEST_CASE, TERRACE, TWO_HOUSES, laid_out};
 use carrier::{Carrier, Message, Radio, Wire};
 use fault::{Fault, Layer};
 use plan::{Plan, read};
 use quantity::Word;
+use samples::{LONGEST, TERRACE, TWO_HOUSES, edited};
+use std::alloc::{AllocError, Global};
 use std::io;
 
 // Two requests and two responses in every order of arrival.
@@ -21,12 +22,11 @@ const ORDERS: [[u64; 4]; 6] = [
 const NOTHING: u64 = 9;
 
 // The plan of the file with that capacity.
-fn plan_of(base: &[u8], capacity: u8) -> Plan {
-    let mut file = laid_out(base);
-    file[8] = capacity;
+fn plan_of(heap: Global, base: &[u8], capacity: u8) -> Result<Plan, AllocError> {
+    let file = edited(heap, base, &[(8, capacity)], base.len())?;
     let mut place = Plan::new();
-    let _ = read(&file[0..base.len().min(LONGEST_CASE)], &mut place);
-    place
+    let _ = read(file.as_slice(), &mut place);
+    Ok(place)
 }
 
 fn message(figure: u64) -> Message<Word> {
@@ -52,9 +52,9 @@ fn put_all<C: Carrier>(carrier: &mut C, puts: [u64; 4]) {
 
 fn take_all<C: Carrier>(carrier: &mut C) -> [u64; 4] {
     let mut takes = [NOTHING; 4];
-    for i in 0..4 {
+    for taken in takes.iter_mut() {
         if let Ok(message) = carrier.take(0) {
-            takes[i] = figure(message);
+            *taken = figure(message);
         }
     }
     takes
@@ -73,37 +73,36 @@ fn order<C: Carrier>(
     println!(rt; "{name}: put {a} {b} {c} {d}, took {w} {x} {y} {z}")
 }
 
-// Puts messages on line 0 until one is refused.
-fn fill<C: Carrier>(rt: &HostRuntime, name: &str, carrier: &mut C) -> io::Result<()> {
+// Makes the call again and again until it is refused, and prints how often it was done.
+fn until_refused<C: Carrier, F: Fn(&mut C) -> Result<(), Fault>>(
+    rt: &HostRuntime,
+    name: &str,
+    carrier: &mut C,
+    done: &str,
+    call: F,
+) -> io::Result<()>
+    requires { F.IsAlwaysCallable call }
+{
     let capacity = carrier.capacity();
-    for i in 0..6 {
-        if let Err(fault) = carrier.put(0, Message::Request) {
+    for times in 0..6 {
+        if let Err(fault) = call(carrier) {
             let count = carrier.count(0);
             return println!(rt;
-                "{name}, capacity {capacity}: {i} put, then {fault}, {count} on the line"
+                "{name}, capacity {capacity}: {times} {done}, then {fault}, {count} on the line"
             );
         }
     }
     Ok(())
 }
 
-// Takes messages off line 0 until one is refused.
-fn empty<C: Carrier>(rt: &HostRuntime, name: &str, carrier: &mut C) -> io::Result<()> {
-    let capacity = carrier.capacity();
-    for i in 0..6 {
-        if let Err(fault) = carrier.take(0) {
-            let count = carrier.count(0);
-            return println!(rt;
-                "{name}, capacity {capacity}: {i} taken, then {fault}, {count} on the line"
-            );
-        }
-    }
-    Ok(())
-}
-
+// Puts messages on line 0 as long as they are accepted, and then takes them off.
 fn fill_and_empty<C: Carrier>(rt: &HostRuntime, name: &str, carrier: &mut C) -> io::Result<()> {
-    fill(rt, name, carrier)?;
-    empty(rt, name, carrier)
+    until_refused(rt, name, carrier, "put", |carrier| {
+        carrier.put(0, Message::Request)
+    })?;
+    until_refused(rt, name, carrier, "taken", |carrier| {
+        carrier.take(0).map(|_| ())
+    })
 }
 
 // A put on the line, its count and a take off it.
@@ -136,7 +135,7 @@ fn edges<C: Carrier>(rt: &HostRuntime, name: &str, carrier: &mut C) -> io::Resul
 
 // Both makes take two requests and two responses in every order of arrival.
 fn orders(rt: &HostRuntime) -> io::Result<()> {
-    let plan = plan_of(&TWO_HOUSES, 4);
+    let plan = plan_of(rt.alloc(), &TWO_HOUSES, 4)?;
     for puts in ORDERS {
         order(rt, "wire", &mut Wire::new(&plan), puts)?;
         order(rt, "radio", &mut Radio::new(&plan), puts)?;
@@ -147,7 +146,7 @@ fn orders(rt: &HostRuntime) -> io::Result<()> {
 // Both sides of every capacity.
 fn capacities(rt: &HostRuntime) -> io::Result<()> {
     for capacity in 1..5 {
-        let plan = plan_of(&TWO_HOUSES, capacity);
+        let plan = plan_of(rt.alloc(), &TWO_HOUSES, capacity)?;
         fill_and_empty(rt, "wire", &mut Wire::new(&plan))?;
         fill_and_empty(rt, "radio", &mut Radio::new(&plan))?;
     }
@@ -157,7 +156,7 @@ fn capacities(rt: &HostRuntime) -> io::Result<()> {
 // The last line of a plan, and the one after it.
 fn last_lines(rt: &HostRuntime) -> io::Result<()> {
     for file in [&TERRACE[..], &LONGEST[..]] {
-        let plan = plan_of(file, 1);
+        let plan = plan_of(rt.alloc(), file, 1)?;
         edges(rt, "wire", &mut Wire::new(&plan))?;
         edges(rt, "radio", &mut Radio::new(&plan))?;
     }

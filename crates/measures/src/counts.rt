@@ -1,14 +1,15 @@
-// A second count of readings, written apart from the library's and by another method: one plain loop for each question,
-// with no quantity in it. Its answers are texts.
-use crate::refusals::Refusal;
-use quantity::Reading;
+// A second count of readings, written apart from the library's and by another method: one plain pass over the readings
+// for each quantity. Its answers are texts.
+use fault::{Cause, Fault};
+use quantity::{Coldest, Flags, Gap, Load, Quantity, Reading};
 use std::alloc::{AllocError, Global};
 
 const FEW: usize = 48;
 
-const BITS: [u32; 16] = [
-    1, 2, 4, 8, 16, 32, 64, 128, 256, 512, 1024, 2048, 4096, 8192, 16384, 32768,
-];
+// A quantity that is also counted here, of readings that are in limits.
+pub trait Recounted: Quantity {
+    fn recount(heap: Global, readings: &[Reading]) -> Result<String, AllocError>;
+}
 
 fn in_limits(reading: &Reading) -> bool {
     let clamp = reading.clamp.unwrap_or(0);
@@ -18,20 +19,15 @@ fn in_limits(reading: &Reading) -> bool {
         && reading.flags >> 16 == 0
 }
 
-// The refusal of the list, or none where it is counted.
-pub fn refusal(readings: &[Reading]) -> Option<Refusal> {
+// Refuses a list that is too long, and one with a reading beyond limits.
+pub fn judged(readings: &[Reading]) -> Result<(), Fault> {
     if readings.len() > FEW {
-        return Some(Refusal {
-            number: 30,
-            place: FEW,
-        });
+        return Err(Fault::new(Cause::ManyReadings, FEW));
     }
-    for (place, reading) in readings.iter().enumerate() {
-        if !in_limits(reading) {
-            return Some(Refusal { number: 26, place });
-        }
+    match readings.iter().position(|reading| !in_limits(reading)) {
+        Some(place) => Err(Fault::new(Cause::WrongReading, place)),
+        None => Ok(()),
     }
-    None
 }
 
 fn coil(reading: &Reading) -> i32 {
@@ -43,82 +39,90 @@ fn coil(reading: &Reading) -> i32 {
     }
 }
 
-pub fn load(heap: Global, readings: &[Reading]) -> Result<String, AllocError> {
-    let mut sum: u64 = 0;
-    for reading in readings {
-        sum = sum.saturating_add(u64::from(reading.watts));
+fn gap(reading: &Reading) -> Option<i32> {
+    let clamp = reading.clamp?;
+    Some(
+        clamp
+            .max(reading.probe)
+            .saturating_sub(clamp.min(reading.probe)),
+    )
+}
+
+// A size and its house, where there is one.
+fn size_text(heap: Global, found: Option<(i32, usize)>) -> Result<String, AllocError> {
+    match found {
+        None => format!(in heap; "- -"),
+        Some((size, house)) => format!(in heap; "{size} {house}"),
     }
-    let houses = readings.len() as u64;
-    if houses == 0 {
-        return format!(in heap; "0 0 -");
+}
+
+impl Recounted for Load {
+    fn recount(heap: Global, readings: &[Reading]) -> Result<String, AllocError> {
+        let sum = readings.iter().fold(
+            0u64,
+            |sum, reading| sum.saturating_add(u64::from(reading.watts)),
+        );
+        let houses = readings.len() as u64;
+        match sum.checked_div(houses) {
+            None => format!(in heap; "{sum} {houses} -"),
+            Some(mean) => format!(in heap; "{sum} {houses} {mean}"),
+        }
     }
-    let mean = sum / houses;
-    format!(in heap; "{sum} {houses} {mean}")
 }
 
 // From the last house to the first, so that an earlier house wins a tie by coming later.
-pub fn coldest(heap: Global, readings: &[Reading]) -> Result<String, AllocError> {
-    let mut least = 901;
-    let mut at = 0;
-    for (house, reading) in readings.iter().enumerate().rev() {
-        if coil(reading) <= least {
-            least = coil(reading);
-            at = house;
+impl Recounted for Coldest {
+    fn recount(heap: Global, readings: &[Reading]) -> Result<String, AllocError> {
+        let mut coldest: Option<(i32, usize)> = None;
+        for (house, reading) in readings.iter().enumerate().rev() {
+            let coil = coil(reading);
+            if coldest.is_none_or(|(least, _)| coil <= least) {
+                coldest = Some((coil, house));
+            }
         }
-    }
-    if least > 900 {
-        format!(in heap; "- -")
-    } else {
-        format!(in heap; "{least} {at}")
+        size_text(heap, coldest)
     }
 }
 
-pub fn gap(heap: Global, readings: &[Reading]) -> Result<String, AllocError> {
-    let mut widest = -1;
-    let mut at = 0;
-    for (house, reading) in readings.iter().enumerate() {
-        if let Some(clamp) = reading.clamp {
-            let gap = clamp
-                .max(reading.probe)
-                .saturating_sub(clamp.min(reading.probe));
-            if gap > widest {
-                widest = gap;
-                at = house;
+impl Recounted for Gap {
+    fn recount(heap: Global, readings: &[Reading]) -> Result<String, AllocError> {
+        let mut widest: Option<(i32, usize)> = None;
+        for (house, reading) in readings.iter().enumerate() {
+            if let Some(gap) = gap(reading)
+                && widest.is_none_or(|(most, _)| gap > most)
+            {
+                widest = Some((gap, house));
             }
         }
-    }
-    if widest < 0 {
-        format!(in heap; "- -")
-    } else {
-        format!(in heap; "{widest} {at}")
+        size_text(heap, widest)
     }
 }
 
 // How many houses have the flag bit of that value.
 fn houses_with(readings: &[Reading], value: u32) -> usize {
-    let mut houses: usize = 0;
-    for reading in readings {
-        if reading.flags & value == value {
-            houses = houses.saturating_add(1);
-        }
-    }
-    houses
+    readings
+        .iter()
+        .filter(|reading| reading.flags & value == value)
+        .count()
 }
 
 // Bit by bit, by the number of houses that have it.
-pub fn flags(heap: Global, readings: &[Reading]) -> Result<String, AllocError> {
-    let mut any: u32 = 0;
-    let mut all: u32 = 0;
-    let mut ones: u32 = 0;
-    for value in BITS {
-        let houses = houses_with(readings, value);
-        if houses > 0 {
-            any |= value;
-            ones = ones.saturating_add(1);
+impl Recounted for Flags {
+    fn recount(heap: Global, readings: &[Reading]) -> Result<String, AllocError> {
+        let mut any: u32 = 0;
+        let mut all: u32 = 0;
+        let mut ones: u32 = 0;
+        for place in 0u32..16 {
+            let value = 1u32 << place;
+            let houses = houses_with(readings, value);
+            if houses > 0 {
+                any |= value;
+                ones = ones.saturating_add(1);
+            }
+            if houses == readings.len() {
+                all |= value;
+            }
         }
-        if houses == readings.len() {
-            all |= value;
-        }
+        format!(in heap; "{any} {all} {ones}")
     }
-    format!(in heap; "{any} {all} {ones}")
 }

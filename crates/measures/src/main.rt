@@ -3,11 +3,9 @@
 
 mod carriers;
 mod counts;
-mod files;
 mod quantities;
 mod random;
 mod readings;
-mod refusals;
 
 use carriers::carriers;
 use quantities::quantity_cases;

@@ -6,9 +6,7 @@ use std::io;
 fn probe(probe: i32) -> Reading {
     Reading {
         probe,
-        clamp: None,
-        watts: 0,
-        flags: 0,
+        ..Reading::blank()
     }
 }
 
@@ -16,17 +14,15 @@ fn clamped(probe: i32, clamp: i32) -> Reading {
     Reading {
         probe,
         clamp: Some(clamp),
-        watts: 0,
-        flags: 0,
+        ..Reading::blank()
     }
 }
 
 fn other(watts: u32, flags: u32) -> Reading {
     Reading {
-        probe: 0,
-        clamp: None,
         watts,
         flags,
+        ..Reading::blank()
     }
 }
 
@@ -147,10 +143,8 @@ fn worked_examples(rt: &HostRuntime) -> io::Result<()> {
     let twelve = Flags::value(1, other(0, 12));
     join::<Flags>(rt, "flags 8 and 12", eight, twelve)?;
     let faulty = Reading {
-        probe: 40,
-        clamp: None,
-        watts: 0,
         flags: 8,
+        ..probe(40)
     };
     let coil = faulty.coil();
     println!(rt; "flags 8, no clamp, probe 40: coil {coil}")

@@ -1,143 +1,72 @@
 // Pseudo-random lists of readings, counted by the library and by the second count.
-use crate::counts::refusal;
+use crate::counts::{Recounted, judged};
 use crate::readings::{agree, list};
-use quantity::{Coldest, Flags, Gap, Load, Quantity, Reading};
+use fault::Cause;
+use quantity::{Coldest, Flags, Gap, Load, Reading};
+use samples::{Source, Spread};
 use std::alloc::{AllocError, Global};
 use std::io;
 
-const LONGEST_LIST: usize = 49;
-
 const LISTS: usize = 400;
 
-// A linear congruential generator; its upper bits are drawn.
-#[derive(Clone, Copy)]
-struct Source {
-    state: u64,
+const SHOWN: usize = 6;
+
+// Readings of up to 49 houses, which have near temperatures and few flags, or any.
+fn next_list(heap: Global, source: &mut Source) -> Result<Vec<Reading>, AllocError> {
+    let near = source.below(2) == 0;
+    let spread = Spread {
+        near,
+        seldom: 800,
+        flags: if near { 16 } else { 65_535 },
+    };
+    let mut readings = Vec::new(heap);
+    for _ in 0..source.below(50) {
+        readings.push(source.reading(spread))?;
+    }
+    Ok(readings)
 }
 
-// A list in a place of its own, blank readings behind it.
-#[derive(Clone, Copy)]
-struct List {
-    readings: [Reading; LONGEST_LIST],
-    length: usize,
-}
-
-impl Source {
-    fn new() -> Source {
-        Source { state: 1 }
-    }
-
-    // A number below the limit.
-    fn below(&mut self, limit: u16) -> u16 {
-        self.state = self
-            .state
-            .wrapping_mul(6_364_136_223_846_793_005)
-            .wrapping_add(1_442_695_040_888_963_407);
-        let high = (self.state >> 48) as u16;
-        high.checked_rem(limit).unwrap_or(0)
-    }
-
-    // A temperature: near 0, so that there are ties, or anywhere in limits, and seldom beyond them.
-    fn temperature(&mut self, near: bool) -> i32 {
-        if self.below(800) == 0 {
-            return 901;
-        }
-        if near {
-            i32::from(self.below(8)) - 4
-        } else {
-            i32::from(self.below(1_501)) - 600
-        }
-    }
-
-    fn clamp(&mut self, near: bool) -> Option<i32> {
-        if self.below(4) == 0 {
-            return None;
-        }
-        Some(self.temperature(near))
-    }
-
-    fn reading(&mut self, near: bool) -> Reading {
-        let probe = self.temperature(near);
-        let clamp = self.clamp(near);
-        let watts = u32::from(self.below(20_001));
-        let bits = if near {
-            self.below(16)
-        } else {
-            self.below(65_535)
-        };
-        Reading {
-            probe,
-            clamp,
-            watts,
-            flags: u32::from(bits) | 0x30,
-        }
-    }
-
-    fn list(&mut self) -> List {
-        let near = self.below(2) == 0;
-        let length = usize::from(self.below(50));
-        let mut readings = [Reading::blank(); LONGEST_LIST];
-        for i in 0..LONGEST_LIST {
-            if i < length {
-                readings[i] = self.reading(near);
-            }
-        }
-        List { readings, length }
-    }
-}
-
-impl List {
-    fn part(&self) -> &[Reading] {
-        &self.readings[0..self.length.min(LONGEST_LIST)]
-    }
-}
-
-// The number of lists on which the library and the second count agree.
-fn agreed<Q: Quantity>(heap: Global) -> Result<usize, AllocError> {
-    let mut source = Source::new();
-    let mut lists: usize = 0;
+fn all_lists(heap: Global) -> Result<Vec<Vec<Reading>>, AllocError> {
+    let mut source = Source { state: 1 };
+    let mut lists = Vec::new(heap);
     for _ in 0..LISTS {
-        let next = source.list();
-        if agree::<Q>(heap, next.part())? {
-            lists = lists.saturating_add(1);
-        }
+        lists.push(next_list(heap, &mut source)?)?;
     }
     Ok(lists)
 }
 
-// The number of lists that are refused by that number.
-fn refused_by(number: usize) -> usize {
-    let mut source = Source::new();
-    let mut lists: usize = 0;
-    for _ in 0..LISTS {
-        let next = source.list();
-        if let Some(refusal) = refusal(next.part()) {
-            if refusal.number == number {
-                lists = lists.saturating_add(1);
-            }
-        }
-    }
+// The number of lists that are refused for the cause.
+fn refused_for(lists: &[Vec<Reading>], cause: Cause) -> usize {
     lists
+        .iter()
+        .filter(|readings| judged(readings.as_slice()).is_err_and(|fault| fault.cause == cause))
+        .count()
 }
 
-fn print_agreed<Q: Quantity>(rt: &HostRuntime) -> io::Result<()> {
+// Prints the number of lists on which the library and the second count agree.
+fn print_agreed<Q: Recounted>(rt: &HostRuntime, lists: &[Vec<Reading>]) -> io::Result<()> {
+    let mut agreed: usize = 0;
+    for readings in lists {
+        if agree::<Q>(rt.alloc(), readings.as_slice())? {
+            agreed = agreed.saturating_add(1);
+        }
+    }
     let letter = Q::LETTER;
-    let lists = agreed::<Q>(rt.alloc())?;
-    println!(rt; "random lists: {letter} the counts agree on {lists}")
+    println!(rt; "random lists: {letter} the counts agree on {agreed}")
 }
 
 // The first lists in full, and on how many of all the two counts agree.
 pub fn random_lists(rt: &HostRuntime) -> io::Result<()> {
-    let mut source = Source::new();
-    for _ in 0..6 {
-        let next = source.list();
-        list(rt, "random list", next.part())?;
+    let lists = all_lists(rt.alloc())?;
+    for readings in lists.iter().take(SHOWN) {
+        list(rt, "random list", readings.as_slice())?;
     }
-    let many = refused_by(30);
-    let beyond = refused_by(26);
+    let lists = lists.as_slice();
+    let many = refused_for(lists, Cause::ManyReadings);
+    let beyond = refused_for(lists, Cause::WrongReading);
     println!(rt; "random lists: {LISTS}, {many} refused by 30, {beyond} by 26")?;
-    print_agreed::<Load>(rt)?;
-    print_agreed::<Coldest>(rt)?;
-    print_agreed::<Gap>(rt)?;
-    print_agreed::<Flags>(rt)
+    print_agreed::<Load>(rt, lists)?;
+    print_agreed::<Coldest>(rt, lists)?;
+    print_agreed::<Gap>(rt, lists)?;
+    print_agreed::<Flags>(rt, lists)
 }

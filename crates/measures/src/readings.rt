@@ -1,5 +1,5 @@
 // Lists of readings, counted by the library and by the second count, and the values and words of each quantity.
-use crate::counts;
+use crate::counts::{Recounted, judged};
 use quantity::{Coldest, Flags, Gap, Load, Quantity, Reading, Word, straight_count};
 use std::alloc::{AllocError, Global};
 use std::io;
@@ -13,27 +13,20 @@ fn first<Q: Quantity>(heap: Global, readings: &[Reading]) -> Result<String, Allo
 }
 
 // What the second count answers.
-fn second(heap: Global, letter: char, readings: &[Reading]) -> Result<String, AllocError> {
-    if let Some(refusal) = counts::refusal(readings) {
-        let number = refusal.number;
-        let place = refusal.place;
-        return format!(in heap; "refused {number} {place}");
-    }
-    match letter {
-        'L' => counts::load(heap, readings),
-        'C' => counts::coldest(heap, readings),
-        'G' => counts::gap(heap, readings),
-        _ => counts::flags(heap, readings),
+fn second<Q: Recounted>(heap: Global, readings: &[Reading]) -> Result<String, AllocError> {
+    match judged(readings) {
+        Ok(()) => Q::recount(heap, readings),
+        Err(fault) => format!(in heap; "{fault}"),
     }
 }
 
 // Whether the two agree on the list.
-pub fn agree<Q: Quantity>(heap: Global, readings: &[Reading]) -> Result<bool, AllocError> {
-    Ok(first::<Q>(heap, readings)? == second(heap, Q::LETTER, readings)?)
+pub fn agree<Q: Recounted>(heap: Global, readings: &[Reading]) -> Result<bool, AllocError> {
+    Ok(first::<Q>(heap, readings)? == second::<Q>(heap, readings)?)
 }
 
 // Prints what the library answers, and says so where the second count answers something else.
-fn answer<Q: Quantity>(rt: &HostRuntime, name: &str, readings: &[Reading]) -> io::Result<()> {
+fn answer<Q: Recounted>(rt: &HostRuntime, name: &str, readings: &[Reading]) -> io::Result<()> {
     let letter = Q::LETTER;
     let text = first::<Q>(rt.alloc(), readings)?;
     println!(rt; "{name}: {letter} {text}")?;

@@ -13,7 +13,7 @@ type Case = (&'static str, &'static [Call]);
 
 const GREATEST: usize = 18_446_744_073_709_551_615;
 
-const BLANK: Reading = Reading {
+pub const BLANK: Reading = Reading {
     probe: 0,
     clamp: None,
     watts: 0,
@@ -22,9 +22,7 @@ const BLANK: Reading = Reading {
 
 const HOT: Reading = Reading {
     probe: 901,
-    clamp: None,
-    watts: 0,
-    flags: 0,
+    ..BLANK
 };
 
 const JUST_MADE: [Case; 8] = [
@@ -163,13 +161,10 @@ fn readings<C: Make>(rt: &HostRuntime, row: &mut Row<Load, C>, plan: &Plan) -> i
     Ok(())
 }
 
-fn print_heading(rt: &HostRuntime, make: &str, plan: &Plan) -> io::Result<()> {
-    let capacity = plan.capacity();
-    println!(rt; "{make}, k = {capacity}")
-}
-
 fn ring_cases<C: Make>(rt: &HostRuntime, row: &mut Row<Load, C>, plan: &Plan) -> io::Result<()> {
-    print_heading(rt, C::NAME, plan)?;
+    let make = C::NAME;
+    let capacity = plan.capacity();
+    println!(rt; "{make}, k = {capacity}")?;
     cases(rt, row, plan, &[], &JUST_MADE)?;
     cases(rt, row, plan, &[Call::Begin], &OPEN)?;
     cases(rt, row, plan, &ROUND, &FINISHED)
@@ -188,8 +183,6 @@ fn all_cases<C: Make>(
 }
 
 pub fn limit_cases(rt: &HostRuntime, one: &Plan, two: &Plan) -> io::Result<()> {
-    let mut row = Row::new(*one, Wire::new(one));
-    all_cases(rt, &mut row, one, two)?;
-    let mut row = Row::new(*one, Radio::new(one));
-    all_cases(rt, &mut row, one, two)
+    all_cases(rt, &mut Row::new(*one, Wire::new(one)), one, two)?;
+    all_cases(rt, &mut Row::new(*one, Radio::new(one)), one, two)
 }

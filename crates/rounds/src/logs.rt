@@ -2,16 +2,20 @@
 use carrier::Kind;
 use pulse::{Answer, Call, Delivery};
 use quantity::Reading;
+use std::alloc::{AllocError, Global};
 
-pub const HOUSES: usize = 48;
+// A house's reading, and the one that it took in the latest round, once it was called.
+#[derive(Clone, Copy)]
+struct House {
+    reading: Reading,
+    taken: Option<Reading>,
+}
 
-// Each house's reading, and of the latest round: what each house took, the accepted loads and hand-overs, and the
-// responses that came to a house before its request.
+// The houses, and of the latest round: the accepted loads and hand-overs, and the responses that came to a house before
+// its request.
 #[derive(Clone, Copy)]
 pub struct Log {
-    readings: [Reading; HOUSES],
-    pub taken: [Reading; HOUSES],
-    called: [bool; HOUSES],
+    houses: [House; 48],
     pub loads: usize,
     pub hand_overs: usize,
     pub early: usize,
@@ -19,25 +23,36 @@ pub struct Log {
 
 impl Log {
     pub fn new() -> Log {
+        let house = House {
+            reading: Reading::blank(),
+            taken: None,
+        };
         Log {
-            readings: [Reading::blank(); HOUSES],
-            taken: [Reading::blank(); HOUSES],
-            called: [false; HOUSES],
+            houses: [house; 48],
             loads: 0,
             hand_overs: 0,
             early: 0,
         }
     }
 
+    // What the houses took, in their order.
+    pub fn taken(&self, heap: Global) -> Result<Vec<Reading>, AllocError> {
+        self.houses
+            .iter()
+            .filter_map(|house| house.taken)
+            .collect(heap)
+    }
+
     fn take(&mut self, house: usize) {
-        if house < HOUSES {
-            self.taken[house] = self.readings[house];
-            self.called[house] = true;
+        if let Some(house) = self.houses.get_mut(house) {
+            house.taken = Some(house.reading);
         }
     }
 
     fn begin(&mut self) {
-        self.called = [false; HOUSES];
+        for house in self.houses.iter_mut() {
+            house.taken = None;
+        }
         self.loads = 0;
         self.hand_overs = 0;
         self.early = 0;
@@ -46,11 +61,11 @@ impl Log {
 
     fn hand_over(&mut self, delivery: Delivery) {
         self.hand_overs = self.hand_overs.saturating_add(1);
-        let house = delivery.house;
         match delivery.kind {
-            Kind::Request => self.take(house),
+            Kind::Request => self.take(delivery.house),
             Kind::Response => {
-                if house < HOUSES && !self.called[house] {
+                let house = self.houses.get(delivery.house);
+                if house.is_some_and(|house| house.taken.is_none()) {
                     self.early = self.early.saturating_add(1);
                 }
             }
@@ -58,22 +73,18 @@ impl Log {
     }
 
     fn set(&mut self, house: usize, reading: Reading) {
-        if house < HOUSES {
-            self.readings[house] = reading;
+        if let Some(house) = self.houses.get_mut(house) {
+            house.reading = reading;
         }
     }
 
     // Notes an accepted call.
     pub fn note<F: Copy>(&mut self, call: Call, answer: Answer<F>) {
-        match answer {
-            Answer::Begin(Ok(())) => self.begin(),
-            Answer::Load(Ok(_)) => self.loads = self.loads.saturating_add(1),
-            Answer::HandOver(Ok(delivery)) => self.hand_over(delivery),
-            Answer::Set(Ok(())) => {
-                if let Call::Set(house, reading) = call {
-                    self.set(house, reading);
-                }
-            }
+        match (call, answer) {
+            (_, Answer::Begin(Ok(()))) => self.begin(),
+            (_, Answer::Load(Ok(_))) => self.loads = self.loads.saturating_add(1),
+            (_, Answer::HandOver(Ok(delivery))) => self.hand_over(delivery),
+            (Call::Set(house, reading), Answer::Set(Ok(()))) => self.set(house, reading),
             _ => (),
         }
     }

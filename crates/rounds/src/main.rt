@@ -7,7 +7,6 @@ mod makes;
 mod plans;
 mod random;
 mod shown;
-mod source;
 mod unfit;
 mod whole;
 
@@ -19,8 +18,8 @@ use unfit::unfit_rows;
 use whole::whole_rounds;
 
 fn main(rt: HostRuntime) -> io::Result<()> {
-    let one = ring(1);
-    let two = ring(2);
+    let one = ring(rt.alloc(), 1)?;
+    let two = ring(rt.alloc(), 2)?;
     whole_rounds(&rt, &two)?;
     limit_cases(&rt, &one, &two)?;
     unfit_rows(&rt, &one, &two)?;

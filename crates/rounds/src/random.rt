@@ -1,13 +1,13 @@
 // Random rounds on random plans, their answers beside the straight count of what the houses took.
-use crate::logs::{HOUSES, Log};
+use crate::logs::Log;
 use crate::makes::Make;
 use crate::plans::random_plan;
-use crate::source::Source;
 use carrier::{Carrier, Radio, Wire};
 use plan::Plan;
 use pulse::{Call, Report};
 use quantity::{Coldest, Flags, Gap, Load, Quantity, straight_count};
 use row::Row;
+use samples::{Source, Spread};
 use std::alloc::{AllocError, Global};
 use std::io;
 
@@ -29,7 +29,7 @@ struct Odds {
 
 // How many rounds were made, in how many the answer and the counts were right, and how many responses came to a house
 // before its request.
-#[derive(Clone, Copy)]
+#[derive(Default, Drop)]
 struct Tally {
     rounds: usize,
     agreed: usize,
@@ -39,8 +39,8 @@ struct Tally {
 impl Odds {
     fn of(plan: &Plan, source: &mut Source) -> Odds {
         Odds {
-            houses: (plan.houses() & 0xff) as u16,
-            lines: (plan.lines() & 0xff) as u16,
+            houses: plan.houses() as u16,
+            lines: plan.lines() as u16,
             loads: source.one_to(7),
         }
     }
@@ -48,7 +48,12 @@ impl Odds {
     // A set, for a house that is there or the next.
     fn setting(self, source: &mut Source) -> Call {
         let house = usize::from(source.below(self.houses.saturating_add(1)));
-        Call::Set(house, source.reading())
+        let spread = Spread {
+            near: source.below(2) == 0,
+            seldom: 20,
+            flags: 65_535,
+        };
+        Call::Set(house, source.reading(spread))
     }
 
     // Mostly a load or a hand over, of a line that is there or the next.
@@ -103,14 +108,15 @@ fn agrees<Q: Quantity>(
     log: &Log,
     odds: Odds,
 ) -> Result<bool, AllocError> {
-    let houses = usize::from(odds.houses).min(HOUSES);
-    let Ok(due) = straight_count::<Q>(&log.taken[0..houses]) else {
+    let taken = log.taken(heap)?;
+    let Ok(due) = straight_count::<Q>(taken.as_slice()) else {
         return Ok(false);
     };
     let figures = report.figures;
     let messages = odds.messages();
     Ok(
         format!(in heap; "{figures}")? == format!(in heap; "{due}")?
+            && taken.len() == usize::from(odds.houses)
             && report.hand_overs as usize == messages
             && log.hand_overs == messages
             && log.loads == messages,
@@ -118,19 +124,9 @@ fn agrees<Q: Quantity>(
 }
 
 impl Tally {
-    fn new() -> Tally {
-        Tally {
-            rounds: 0,
-            agreed: 0,
-            early: 0,
-        }
-    }
-
     fn add(&mut self, agreed: bool, early: usize) {
         self.rounds = self.rounds.saturating_add(1);
-        if agreed {
-            self.agreed = self.agreed.saturating_add(1);
-        }
+        self.agreed = self.agreed.saturating_add(usize::from(agreed));
         self.early = self.early.saturating_add(early);
     }
 
@@ -155,7 +151,7 @@ impl Tally {
         Ok(())
     }
 
-    fn print(self, rt: &HostRuntime, name: &str, letter: char, make: &str) -> io::Result<()> {
+    fn print(&self, rt: &HostRuntime, name: &str, letter: char, make: &str) -> io::Result<()> {
         let rounds = self.rounds;
         let agreed = self.agreed;
         let early = self.early;
@@ -165,13 +161,20 @@ impl Tally {
     }
 }
 
+// Another source for each quantity.
+fn source_of<Q: Quantity>() -> Source {
+    Source {
+        state: u64::from(Q::LETTER),
+    }
+}
+
 // Some rounds each on many plans; the row is made anew for each.
 fn many_plans<Q: Quantity, C: Make>(rt: &HostRuntime, row: &mut Row<Q, C>) -> io::Result<()> {
-    let mut source = Source::new(Q::LETTER);
-    let mut tally = Tally::new();
+    let mut source = source_of::<Q>();
+    let mut tally = Tally::default();
     for _ in 0..PLANS {
-        let houses = source.one_to(48);
-        let plan = random_plan(&mut source, houses, 129);
+        let houses = source.one_to(48) as u8;
+        let plan = random_plan(rt.alloc(), &mut source, houses, 129)?;
         let odds = Odds::of(&plan, &mut source);
         *row = Row::new(plan, C::made(&plan));
         tally.add_life(rt.alloc(), &mut source, row, odds, ROUNDS_A_PLAN)?;
@@ -181,9 +184,9 @@ fn many_plans<Q: Quantity, C: Make>(rt: &HostRuntime, row: &mut Row<Q, C>) -> io
 
 // Many rounds of one row.
 fn one_row<Q: Quantity, C: Make>(rt: &HostRuntime, row: &mut Row<Q, C>) -> io::Result<()> {
-    let mut source = Source::new(Q::LETTER);
-    let mut tally = Tally::new();
-    let plan = random_plan(&mut source, 14, 14);
+    let mut source = source_of::<Q>();
+    let mut tally = Tally::default();
+    let plan = random_plan(rt.alloc(), &mut source, 14, 14)?;
     let odds = Odds::of(&plan, &mut source);
     *row = Row::new(plan, C::made(&plan));
     tally.add_life(rt.alloc(), &mut source, row, odds, ROUNDS_OF_A_LIFE)?;

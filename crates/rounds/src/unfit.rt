@@ -1,10 +1,11 @@
 // Rows whose carrier does not fit the plan, beside one whose carrier does.
+use crate::cases::BLANK;
 use crate::makes::Make;
 use crate::shown::print_call;
 use carrier::{Carrier, Message, Radio, Wire};
 use plan::Plan;
 use pulse::Call;
-use quantity::{Load, Reading};
+use quantity::Load;
 use row::Row;
 use std::io;
 
@@ -12,15 +13,7 @@ const CALLS: [Call; 5] = [
     Call::Begin,
     Call::Load(0),
     Call::HandOver(0),
-    Call::Set(
-        0,
-        Reading {
-            probe: 0,
-            clamp: None,
-            watts: 0,
-            flags: 0,
-        },
-    ),
+    Call::Set(0, BLANK),
     Call::Read,
 ];
 
@@ -51,30 +44,18 @@ fn carriers<C: Make>(
     one: &Plan,
     two: &Plan,
 ) -> io::Result<()> {
+    let name = C::NAME;
+    println!(rt; "{name}s")?;
     print_calls(rt, "a carrier that fits", row, one, C::made(one))?;
     print_calls(rt, "another m", row, one, C::made(&Plan::new()))?;
     print_calls(rt, "another k", row, one, C::made(two))?;
-    print_calls(
-        rt,
-        "a message on line 0",
-        row,
-        one,
-        with_request(C::made(one), 0),
-    )?;
-    print_calls(
-        rt,
-        "a message on line m - 1",
-        row,
-        one,
-        with_request(C::made(one), 5),
-    )
+    let first = with_request(C::made(one), 0);
+    print_calls(rt, "a message on line 0", row, one, first)?;
+    let last = with_request(C::made(one), 5);
+    print_calls(rt, "a message on line m - 1", row, one, last)
 }
 
 pub fn unfit_rows(rt: &HostRuntime, one: &Plan, two: &Plan) -> io::Result<()> {
-    let mut row = Row::new(*one, Wire::new(one));
-    println!(rt; "wires")?;
-    carriers(rt, &mut row, one, two)?;
-    let mut row = Row::new(*one, Radio::new(one));
-    println!(rt; "radios")?;
-    carriers(rt, &mut row, one, two)
+    carriers(rt, &mut Row::new(*one, Wire::new(one)), one, two)?;
+    carriers(rt, &mut Row::new(*one, Radio::new(one)), one, two)
 }

@@ -1,4 +1,4 @@
-// Plan files that are accepted, from which the cases are made.
+// Plan files that are accepted, from which the cases of the programs are made.
 
 // One house and no line.
 pub const ONE_HOUSE: [u8; 10] = [0x52, 0x4F, 0x57, 0x00, 0x01, 0x01, 0x00, 0x00, 0x01, 0x00];

@@ -1,0 +1,4 @@
+pub mod Draws
+pub mod Edits
+pub mod Readings
+pub mod Sketches
