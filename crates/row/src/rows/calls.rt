@@ -43,8 +43,8 @@ impl<Q: Quantity, C: Carrier> Row<Q, C> {
         ensures same { SameIfRefused self.old result self.new }
     {
         self.check_hand_over(line)?;
-        let message = self.carrier.take(line).unwrap();
         let house = self.house_at_end(line);
+        let message = self.carrier.take(line).unwrap();
         self.question.deliver(&self.plan, house, message);
         self.question.count_hand_over();
         Ok(Delivery {
