@@ -6,7 +6,6 @@ use Rattle.fault.specs.Layers.{fault_at}
 use Rattle.plan.specs.declared.plans.Plan.{Plan}
 use Rattle.plan.specs.Files.{file_of}
 use Rattle.plan.specs.Readers.{ReadPlan}
-use Rattle.quantity.specs.declared.extremes.SizeFigures.{SizeFigures}
 use Rattle.quantity.specs.declared.extremes.Extreme.{Extreme}
 use Rattle.quantity.specs.declared.readings.Reading.{Reading}
 use Rattle.quantity.specs.declared.flags.Sets.{Sets}
