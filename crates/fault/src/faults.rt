@@ -30,8 +30,6 @@ impl fmt::Display for Fault {
     ghost output = { λ v. Some (refusal v) };
 
     fn fmt<W: fmt::Write>(&self, f: &mut fmt::Formatter<W>) -> fmt::Result {
-        let number = self.cause.number();
-        let place = self.place;
-        write!(f, "refused {number} {place}")
+        write!(f, "refused {} {}", self.cause.number(), self.place)
     }
 }

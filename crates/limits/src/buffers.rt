@@ -23,10 +23,9 @@ const FILL: u8 = 0xEE;
 
 // Whether the buffer is the file and then the fill.
 fn holds(buffer: &[u8], file: &[u8]) -> bool {
-    match buffer.strip_prefix(file) {
-        None => false,
-        Some(rest) => rest.iter().all(|b| *b == FILL),
-    }
+    buffer
+        .strip_prefix(file)
+        .is_some_and(|rest| rest.iter().all(|b| *b == FILL))
 }
 
 // Prints what the writer says of the file's plan at a buffer of that length, and whether the buffer then holds what it

@@ -100,7 +100,7 @@ const RULES: [Case; 8] = [
 ];
 
 // What the library says of a file.
-pub fn first(file: &[u8]) -> Result<(), Fault> {
+pub fn read_verdict(file: &[u8]) -> Result<(), Fault> {
     let mut place = Plan::new();
     read(file, &mut place)
 }
@@ -108,7 +108,7 @@ pub fn first(file: &[u8]) -> Result<(), Fault> {
 // Prints what the library says of the case's file, and says so where the second judge says something else.
 fn judge_case(rt: &HostRuntime, (name, base, edits, length): Case) -> io::Result<()> {
     let file = edited(rt.alloc(), base, edits, length)?;
-    let verdict = first(file.as_slice());
+    let verdict = read_verdict(file.as_slice());
     if verdict != judged(file.as_slice()) {
         println!(rt; "{name}: the second judge differs")?;
     }

@@ -1,4 +1,4 @@
-// Cases on both sides of each limit of the plan file, beside a second count.
+// Cases on both sides of each limit of the plan file, beside a second judge.
 #![tactic(auto)]
 
 mod buffers;

@@ -1,10 +1,10 @@
-// A second judge of plan files, written apart from the library's and by another method: it keeps the houses that a
-// tree reaches as bits of a word, and grows that set round by round.
+// A second judge of plan files, written apart from the library's. It judges the trees by another method: it keeps the
+// houses that a tree reaches as bits of a word, and grows that set round by round.
 ghost use Rattle.std.specs.Prelude.{◌<◌, ◌≤◌, IfSome, length};
 
 use fault::{Cause, Fault};
 
-const MARK: [u8; 3] = [0x52, 0x4F, 0x57];
+const MARK: [u8; 3] = [b'R', b'O', b'W'];
 
 // The two trees.
 #[derive(Clone, Copy)]
@@ -51,7 +51,7 @@ fn wrong_byte(line: [u8; 3], houses: usize) -> Option<usize>
 }
 
 impl<'a> Body<'a> {
-    // The part of the file behind a header that is right.
+    // The part of the file behind its header, or what is wrong with the header or the length.
     fn of(file: &'a [u8]) -> Result<Body<'a>, Fault> {
         let Some((header, rest)) = file.split_first_chunk::<9>() else {
             return Err(Fault::new(Cause::FileShort, file.len()));
@@ -133,6 +133,8 @@ impl<'a> Body<'a> {
         Ok(())
     }
 
+    // Refuses the lowest house that no line of the tree serves, or more than one, and then the lowest that it does not join to
+    // the head.
     fn judge_tree(&self, tree: Tree, single: Cause, leading: Cause) -> Result<(), Fault> {
         self.each_house(single, |house, _| {
             self.count(tree, |near, _| near == house) == usize::from(house != 0)

@@ -1,5 +1,5 @@
 // Every file that differs from an accepted one in one byte, and every one that is cut short or made longer.
-use crate::cases::first;
+use crate::cases::read_verdict;
 use crate::second::judged;
 use samples::{LONGEST, ONE_HOUSE, TERRACE, TWO_HOUSES};
 use std::alloc::{AllocError, Global};
@@ -23,7 +23,7 @@ impl Tally {
     }
 
     fn add(&mut self, file: &[u8]) -> Result<(), AllocError> {
-        let verdict = first(file);
+        let verdict = read_verdict(file);
         let number = verdict.err().map(|fault| fault.cause.number());
         let files = self.files.entry(number)?.or_insert(0);
         *files = files.saturating_add(1);

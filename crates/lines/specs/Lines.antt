@@ -13,7 +13,7 @@ marks_number Marks.Direct = 1
 marks_number Marks.Back = 2
 marks_number Marks.Both = 3
 
--- the marks of that number, or none where it is above 3
+-- the marks of that number, or that number where it is above 3
 abbrev pub Numbered : ℕ → Result Marks NoMarks → Type 0
 Numbered number r = MatchResult r (λ marks. marks_number marks ≡ number) (λ e. (e.0 ≡ number) × (3 < number))
 

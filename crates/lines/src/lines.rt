@@ -71,7 +71,7 @@ impl TryFrom<u8> for Marks {
 
     ghost try_from_gives = { Numbered };
 
-    // The marks of that number, or none where there are none.
+    // The marks of that number; a number that no marks have comes back.
     fn try_from(number: u8) -> Result<Marks, NoMarks> {
         match number {
             0 => Ok(Marks::Neither),

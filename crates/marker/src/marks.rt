@@ -1,5 +1,5 @@
 ghost use Rattle.std.specs.Prelude.{◌≡◌};
-ghost use Rattle.marker.specs.Marked.{takes, entry_on, remark_of, Retabled, RemarkedBy};
+ghost use Rattle.marker.specs.Marked.{takes, entry_on, remark_of, RemarkedBy};
 ghost use Rattle.marker.specs.Rounds.{entry_in};
 
 use crate::tables::{Table, Tables};

@@ -60,7 +60,7 @@ impl Table {
 impl Tables {
     // The search on both ways.
     pub(crate) fn search(draft: &Draft) -> Tables
-        ensures { (w : _) → Searched w (lines_of draft.now) draft.now.houses (entry_on result w) }
+        ensures { (way : Way) → Searched way (lines_of draft.now) draft.now.houses (entry_on result way) }
     {
         Tables {
             direct: Table::search(draft, Way::Direct),

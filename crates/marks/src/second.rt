@@ -52,17 +52,16 @@ fn server(lines: &[[u8; 3]], tree: Tree, table: &Distances, house: usize) -> Opt
     })
 }
 
-// Refuses a house that has no way.
+// For each house but the head the line that leads it one step nearer. Refuses the lowest house that has no way.
 fn servers(body: Body<'_>, tree: Tree) -> Result<Servers, Fault> {
     let table = distances(body, tree);
     let mut servers = [None; 48];
-    for (house, _) in body.counters.iter().enumerate().skip(1) {
+    let houses = servers.iter_mut().enumerate().take(body.counters.len());
+    for (house, found) in houses.skip(1) {
         if distance(&table, house).is_none() {
             return Err(Fault::new(tree.cause(), house));
         }
-        if let Some(found) = servers.get_mut(house) {
-            *found = server(body.lines, tree, &table, house);
-        }
+        *found = server(body.lines, tree, &table, house);
     }
     Ok(servers)
 }

@@ -1,20 +1,18 @@
 // Cases on both sides of each limit of a reading, a list and a word, ties, and the worked examples.
 use crate::readings::{house, join, list, word};
 use quantity::{Coldest, Flags, Gap, Load, Quantity, Reading, Total};
+use samples::BLANK;
 use std::io;
 
 fn probe(probe: i32) -> Reading {
-    Reading {
-        probe,
-        ..Reading::blank()
-    }
+    Reading { probe, ..BLANK }
 }
 
 fn clamped(probe: i32, clamp: i32) -> Reading {
     Reading {
         probe,
         clamp: Some(clamp),
-        ..Reading::blank()
+        ..BLANK
     }
 }
 
@@ -22,36 +20,109 @@ fn other(watts: u32, flags: u32) -> Reading {
     Reading {
         watts,
         flags,
-        ..Reading::blank()
+        ..BLANK
     }
 }
 
 // Readings on both sides of each limit: probe, clamp, watts and flags.
-const READINGS: [(&str, i32, Option<i32>, u32, u32); 14] = [
-    ("probe -601", -601, None, 0, 0),
-    ("probe -600", -600, None, 0, 0),
-    ("probe 900", 900, None, 0, 0),
-    ("probe 901", 901, None, 0, 0),
-    ("clamp -601", 0, Some(-601), 0, 0),
-    ("clamp -600", 0, Some(-600), 0, 0),
-    ("clamp 900", 0, Some(900), 0, 0),
-    ("clamp 901", 0, Some(901), 0, 0),
-    ("probe -600, clamp 900", -600, Some(900), 0, 0),
-    ("watts 20000", 0, None, 20_000, 0),
-    ("watts 20001", 0, None, 20_001, 0),
-    ("flags 65535", 0, None, 0, 65_535),
-    ("flags 65536", 0, None, 0, 65_536),
-    ("blank", 0, None, 0, 0),
+const READINGS: [(&str, Reading); 14] = [
+    (
+        "probe -601",
+        Reading {
+            probe: -601,
+            ..BLANK
+        },
+    ),
+    (
+        "probe -600",
+        Reading {
+            probe: -600,
+            ..BLANK
+        },
+    ),
+    (
+        "probe 900",
+        Reading {
+            probe: 900,
+            ..BLANK
+        },
+    ),
+    (
+        "probe 901",
+        Reading {
+            probe: 901,
+            ..BLANK
+        },
+    ),
+    (
+        "clamp -601",
+        Reading {
+            clamp: Some(-601),
+            ..BLANK
+        },
+    ),
+    (
+        "clamp -600",
+        Reading {
+            clamp: Some(-600),
+            ..BLANK
+        },
+    ),
+    (
+        "clamp 900",
+        Reading {
+            clamp: Some(900),
+            ..BLANK
+        },
+    ),
+    (
+        "clamp 901",
+        Reading {
+            clamp: Some(901),
+            ..BLANK
+        },
+    ),
+    (
+        "probe -600, clamp 900",
+        Reading {
+            probe: -600,
+            clamp: Some(900),
+            ..BLANK
+        },
+    ),
+    (
+        "watts 20000",
+        Reading {
+            watts: 20_000,
+            ..BLANK
+        },
+    ),
+    (
+        "watts 20001",
+        Reading {
+            watts: 20_001,
+            ..BLANK
+        },
+    ),
+    (
+        "flags 65535",
+        Reading {
+            flags: 65_535,
+            ..BLANK
+        },
+    ),
+    (
+        "flags 65536",
+        Reading {
+            flags: 65_536,
+            ..BLANK
+        },
+    ),
+    ("blank", BLANK),
 ];
 
 fn readings(rt: &HostRuntime) -> io::Result<()> {
-    for (name, probe, clamp, watts, flags) in READINGS {
-        let reading = Reading {
-            probe,
-            clamp,
-            watts,
-            flags,
-        };
+    for (name, reading) in READINGS {
         list(rt, name, &[reading])?;
     }
     Ok(())

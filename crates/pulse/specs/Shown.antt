@@ -22,6 +22,7 @@ abbrev pub reading_shown : Reading → List ℕ
 reading_shown r =
     signed_decimal r.probe ++ (codes " " ++ (clamp_shown r.clamp ++ (codes " " ++ (decimal r.watts ++ (codes " " ++ decimal r.flags)))))
 
+-- a call: its letter, and what it is given
 abbrev pub call_shown : Call → List ℕ
 call_shown Call.Begin = codes "B"
 call_shown (Call.Load i) = codes "L " ++ decimal i

@@ -4,10 +4,10 @@ use Rattle.std.proofs.Common.{sym, ◌∙◌, ap, arith}
 use Rattle.std.proofs.lemmas.Bool.{cond-false, cond_both, ne_eqb, le-ltb, le-leb, lt-ltb, and_from, eqb-true, ltb-true, ltb-false}
 use Rattle.std.proofs.lemmas.Bool.Decides.{nat_tests}
 use Rattle.quantity.specs.declared.extremes.Extreme.{Extreme}
+use Rattle.quantity.specs.declared.readings.Reading.{Reading}
 use Rattle.quantity.specs.declared.words.Word.{Word}
 use Rattle.quantity.specs.Senses.{Laws}
-use Rattle.quantity.specs.declared.extremes.SizeFigures.{SizeFigures}
-use Rattle.quantity.specs.Extremes.{Choice, Lowest, Highest, Measuring, extreme_sense, size_in_house, extreme, goes_before, chosen, extreme_join, extreme_bits, extreme_word, found, extreme_back}
+use Rattle.quantity.specs.Extremes.{Choice, Lowest, Highest, size_in_house, extreme, goes_before, chosen, extreme_join, extreme_bits, extreme_word, found, extreme_back}
 use Rattle.quantity.specs.Decided.{if_so_true, from_if_so}
 use Rattle.quantity.specs.Same.{same_word, same_extreme}
 
@@ -87,12 +87,21 @@ only_by false false w v z l e = only_high w v (ltb-false w.bits (2 ^ 32) l) e
 only : (w : Word) (v : Option Extreme) → extreme_back w ≡ Some v → w ≡ extreme_word v
 only w v e = only_by (w.bits == 0) (nat_lt w.bits (2 ^ 32)) w v refl refl e
 
--- the laws of a quantity whose values are extremes
-pub extreme_laws : (m : Measuring) → Laws (Option Extreme) Word SizeFigures (extreme_sense m)
-extreme_laws m =
+-- the laws of a quantity whose values are extremes, whatever a house gives and whatever is answered
+pub extreme_laws :
+    {F : Type 0} (o : Choice) (given : ℕ → Reading → Option Extreme) (figures : Option Extreme → F) →
+    Laws (Option Extreme) Word F (record {
+      given = given;
+      nothing = None;
+      join = extreme_join o;
+      word = extreme_word;
+      back = extreme_back;
+      figures = figures;
+    })
+extreme_laws o given figures =
     record {
-      commutative = commutative m.choice;
-      associative = associative m.choice;
+      commutative = commutative o;
+      associative = associative o;
       unit = λ _. refl;
       returned = returned;
       only = only;

@@ -16,7 +16,7 @@ coil_measuring =
       scale = λ size. pos size -ℤ pos 600;
     }
 
--- of gaps the highest wins
+-- a gap's size is the difference of probe and clamp, and the highest wins
 abbrev pub gap_measuring : Measuring
 gap_measuring = record { size = gap; choice = Highest; scale = λ size. pos size }
 

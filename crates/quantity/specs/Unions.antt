@@ -12,7 +12,7 @@ use Rattle.quantity.specs.Senses.{Laws}
 use Rattle.quantity.specs.Decided.{if_so_true, from_if_so}
 use Rattle.quantity.specs.Same.{same_word, same_sets}
 
-or_assoc : (a b c : ℕ) → bit_or (bit_or a b) c ≡ bit_or a (bit_or b c)
+pub or_assoc : (a b c : ℕ) → bit_or (bit_or a b) c ≡ bit_or a (bit_or b c)
 or_assoc a b c =
     same_from_bits _ _
     (λ i. omega (arith, bit_at_or (bit_or a b) c i, bit_at_or a b i, bit_at_or a (bit_or b c) i, bit_at_or b c i))

@@ -67,7 +67,7 @@ impl<M: Measure> Quantity for M {
 
     ghost sense = { extreme_sense M.measuring };
 
-    ghost laws = { extreme_laws M.measuring };
+    ghost laws = { extreme_laws M.measuring.choice (extreme_sense M.measuring).given (extreme_sense M.measuring).figures };
 
     fn value(house: usize, reading: Reading) -> Option<Extreme> {
         if !reading.usable(house) {

@@ -6,19 +6,11 @@ use plan::Plan;
 use pulse::Call;
 use quantity::{Load, Reading};
 use row::Row;
+use samples::BLANK;
 use std::io;
 
 // Calls with a name; the last of them is printed.
 type Case = (&'static str, &'static [Call]);
-
-const GREATEST: usize = 18_446_744_073_709_551_615;
-
-pub const BLANK: Reading = Reading {
-    probe: 0,
-    clamp: None,
-    watts: 0,
-    flags: 0,
-};
 
 const HOT: Reading = Reading {
     probe: 901,
@@ -33,7 +25,7 @@ const JUST_MADE: [Case; 8] = [
     ("set, house n - 1", &[Call::Set(4, BLANK)]),
     ("set, house n", &[Call::Set(5, BLANK)]),
     ("set, house n, beyond limits", &[Call::Set(5, HOT)]),
-    ("set, greatest house", &[Call::Set(GREATEST, BLANK)]),
+    ("set, greatest house", &[Call::Set(usize::MAX, BLANK)]),
 ];
 
 const OPEN: [Case; 15] = [
@@ -41,10 +33,10 @@ const OPEN: [Case; 15] = [
     ("read, an open round", &[Call::Read]),
     ("load, line m - 1", &[Call::Load(5)]),
     ("load, line m", &[Call::Load(6)]),
-    ("load, greatest line", &[Call::Load(GREATEST)]),
+    ("load, greatest line", &[Call::Load(usize::MAX)]),
     ("hand over, line m - 1", &[Call::Load(5), Call::HandOver(5)]),
     ("hand over, line m", &[Call::HandOver(6)]),
-    ("hand over, greatest line", &[Call::HandOver(GREATEST)]),
+    ("hand over, greatest line", &[Call::HandOver(usize::MAX)]),
     ("load, a message waits", &[Call::Load(0)]),
     ("load, nothing waits", &[Call::Load(1)]),
     ("load, loaded before", &[Call::Load(0), Call::Load(0)]),
@@ -86,19 +78,55 @@ const ONE_HOUSE: [Case; 7] = [
     ("one house, set house 1", &[Call::Set(1, BLANK)]),
 ];
 
-const READINGS: [(i32, Option<i32>, u32, u32); 12] = [
-    (-600, None, 0, 0),
-    (-601, None, 0, 0),
-    (900, None, 0, 0),
-    (901, None, 0, 0),
-    (0, Some(-600), 0, 0),
-    (0, Some(-601), 0, 0),
-    (0, Some(900), 0, 0),
-    (0, Some(901), 0, 0),
-    (0, None, 20_000, 0),
-    (0, None, 20_001, 0),
-    (0, None, 0, 65_535),
-    (0, None, 0, 65_536),
+const READINGS: [Reading; 12] = [
+    Reading {
+        probe: -600,
+        ..BLANK
+    },
+    Reading {
+        probe: -601,
+        ..BLANK
+    },
+    Reading {
+        probe: 900,
+        ..BLANK
+    },
+    Reading {
+        probe: 901,
+        ..BLANK
+    },
+    Reading {
+        clamp: Some(-600),
+        ..BLANK
+    },
+    Reading {
+        clamp: Some(-601),
+        ..BLANK
+    },
+    Reading {
+        clamp: Some(900),
+        ..BLANK
+    },
+    Reading {
+        clamp: Some(901),
+        ..BLANK
+    },
+    Reading {
+        watts: 20_000,
+        ..BLANK
+    },
+    Reading {
+        watts: 20_001,
+        ..BLANK
+    },
+    Reading {
+        flags: 65_535,
+        ..BLANK
+    },
+    Reading {
+        flags: 65_536,
+        ..BLANK
+    },
 ];
 
 // A whole round of the ring, whatever its capacity.
@@ -148,14 +176,8 @@ fn cases<C: Make>(
 }
 
 fn readings<C: Make>(rt: &HostRuntime, row: &mut Row<Load, C>, plan: &Plan) -> io::Result<()> {
-    for (probe, clamp, watts, flags) in READINGS {
+    for reading in READINGS {
         *row = Row::new(*plan, C::made(plan));
-        let reading = Reading {
-            probe,
-            clamp,
-            watts,
-            flags,
-        };
         print_call(rt, "limits of a reading", row, Call::Set(4, reading))?;
     }
     Ok(())

@@ -1,5 +1,4 @@
 // Rows whose carrier does not fit the plan, beside one whose carrier does.
-use crate::cases::BLANK;
 use crate::makes::Make;
 use crate::shown::print_call;
 use carrier::{Carrier, Message, Radio, Wire};
@@ -7,6 +6,7 @@ use plan::Plan;
 use pulse::Call;
 use quantity::Load;
 use row::Row;
+use samples::BLANK;
 use std::io;
 
 const CALLS: [Call; 5] = [

@@ -9,6 +9,7 @@ use lines::{End, Line, Way};
 use pulse::Waiting;
 use quantity::Word;
 
+// What waits for a line where nothing does.
 pub(crate) const NONE_WAITS: Waiting<Word> = Waiting {
     request: false,
     response: None,
@@ -67,8 +68,8 @@ pub(crate) fn take_next(waiting: &mut Waiting<Word>) -> Message<Word>
         waiting.request = false;
         return Message::Request;
     }
-    match waiting.response.take() {
-        Some(word) => Message::Response(word),
-        None => Message::Request,
-    }
+    waiting
+        .response
+        .take()
+        .map_or(Message::Request, Message::Response)
 }

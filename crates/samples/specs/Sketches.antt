@@ -11,7 +11,7 @@ pub record HasLines (n : ℕ) (xs : List Line) (s : Sketch) : Type 0 where
   pub lines : s.lines.items ≡ xs
   pub counters : s.counters.items ≡ replicate n 0
 
--- the lines with one more between two houses, unless there are 128
+-- the lines with one more between two houses, unless there are 128; none from a house to itself
 abbrev pub joined : List Line → ℕ → ℕ → List Line
 joined lines from to =
     if not (from == to) && nat_lt (length lines) 128

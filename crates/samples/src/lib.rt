@@ -10,6 +10,6 @@ mod sources;
 
 pub use edits::edited;
 pub use files::{LONGEST, ONE_HOUSE, TERRACE, TWO_HOUSES};
-pub use readings::Spread;
+pub use readings::{BLANK, Spread};
 pub use sketches::Sketch;
 pub use sources::Source;

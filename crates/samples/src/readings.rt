@@ -13,6 +13,14 @@ pub struct Spread {
     pub flags: u16,
 }
 
+// A blank reading, for tables.
+pub const BLANK: Reading = Reading {
+    probe: 0,
+    clamp: None,
+    watts: 0,
+    flags: 0,
+};
+
 // The two flag bits that every house has.
 const COMMON_FLAGS: u32 = 0x30;
 
@@ -42,6 +50,7 @@ impl Source {
         }
     }
 
+    // A reading drawn from that spread.
     pub fn reading(&mut self, spread: Spread) -> Reading
         ensures value { result ≡ (reading_of spread self.old.state).0 }
         ensures state { self.new.state ≡ (reading_of spread self.old.state).1 }

@@ -1,4 +1,4 @@
-ghost use Rattle.std.specs.Prelude.{◌≡◌, ◌≤◌, [], ◌++◌, IfOk, OnOk, OnErr, replicate, vec_len};
+ghost use Rattle.std.specs.Prelude.{◌≡◌, ◌≤◌, [], ◌++◌, IfOk, OnOk, OnErr, vec_len};
 
 use lines::{Line, Marks};
 use std::alloc::{AllocError, Global};
@@ -31,7 +31,7 @@ impl Sketch {
         })
     }
 
-    // Adds an unmarked line between two houses, up to the greatest number of lines.
+    // Adds an unmarked line between two houses, not from a house to itself, up to the greatest number of lines.
     pub fn join(&mut self, from: u8, to: u8) -> Result<(), AllocError>
         ensures ok { OnOk result (self.new.lines.items ≡ joined self.old.lines.items from to) }
         ensures err { OnErr result (self.new.lines.items ≡ self.old.lines.items) }
@@ -80,9 +80,9 @@ impl Sketch {
         let mut file = Vec::from_slice(
             alloc,
             &[
-                0x52,
-                0x4F,
-                0x57,
+                b'R',
+                b'O',
+                b'W',
                 0,
                 1,
                 self.houses,
@@ -91,10 +91,10 @@ impl Sketch {
                 self.capacity,
             ],
         )?;
-        for line in self.lines.iter() {
+        for line in &self.lines {
             file.extend_from_slice(&[line.from, line.to, line.marks.number()])?;
         }
-        file.extend_from_slice(self.counters.as_slice())?;
+        file.extend_from_slice(&self.counters)?;
         Ok(file)
     }
 }

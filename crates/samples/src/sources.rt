@@ -22,7 +22,7 @@ impl Source {
         high.checked_rem(limit).unwrap_or(0)
     }
 
-    // A number from 1 to the limit.
+    // A number from 1 to the limit; 1 where the limit is 0.
     pub fn one_to(&mut self, limit: u16) -> u16
         ensures value { result ≡ 1 + drawn limit self.new.state }
         ensures within { 0 < limit → result ≤ limit }

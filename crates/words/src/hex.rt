@@ -14,7 +14,7 @@ fn digit(byte: u8) -> Option<u8>
     }
 }
 
-// The byte whose two digits these are.
+// The byte whose two digits these are, or none.
 fn byte_of(pair: [u8; 2]) -> Option<u8>
     ensures { MatchOption result ((b : ℕ) → b < 256 → pair_of b ≢ pair) (λ b. pair_of b ≡ pair) }
 {

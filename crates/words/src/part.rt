@@ -5,7 +5,7 @@ use crate::parts::Parts;
 // A part of a text: the text as far as the part's end, and the byte where the part starts.
 #[derive(Clone, Copy)]
 pub struct Part<'a> {
-    pub text: &'a [u8],
+    pub(crate) text: &'a [u8],
     pub at: usize,
     ghost within: { at ≤ length text.now },
 }
@@ -15,6 +15,7 @@ impl<'a> Part<'a> {
     ghost use Rattle.words.specs.Parts.{words};
     ghost use Rattle.words.specs.Placed.{bytes_of, placed, left};
 
+    // The part's own bytes.
     pub fn bytes(self) -> &'a [u8]
         ensures { result.now ≡ bytes_of self.entry }
     {

@@ -1,5 +1,3 @@
-ghost use Rattle.std.specs.Prelude.{◌≡◌, ◌≤◌, length as count, take};
-ghost use Rattle.plan.specs.Files.{file_of};
 ghost use Rattle.plan.specs.Trips.{Reread, Rewritten};
 
 use crate::plans::Plan;
