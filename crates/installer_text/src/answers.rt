@@ -65,8 +65,11 @@ fn answer(text: &mut String, line: Part) -> Result<(), AllocError>
     ensures { OnOk result (Adds (Answered line.entry.at (bytes_of line.entry)) (string_bytes text.old) (string_bytes text.new)) }
 {
     let mut words = line.words();
-    let Some(command) = words.next().and_then(|name| Command::named(name.bytes())) else {
-        return no_form(text, line.at);
+    let Some(name) = words.next() else {
+        return no_form(text, line.end());
+    };
+    let Some(command) = Command::named(name.bytes()) else {
+        return no_form(text, name.at);
     };
     let Some(hex) = words.next() else {
         return no_form(text, line.end());
