@@ -13,7 +13,7 @@ use Rattle.pulse.specs.Rounds.{value_of}
 use Rattle.pulse.specs.Traces.{Account, at, times}
 use Rattle.pulse.proofs.Bits.{at_alike, at_other, at_same, bit_left, loads_called, loads_sent, none_there, one_request, one_response, requests_here, requests_other, responses_sent}
 use Rattle.pulse.proofs.Sound.{Sound, View, asked, carried, carried_among, monoid, replied, requests_among, requests_in, responses_among, responses_in}
-use Rattle.pulse.proofs.Totals.{adding, bit, left_comm, pick, right_unit, sum, sum_less, total_more, total_same}
+use Rattle.pulse.proofs.Totals.{adding, bit, left_comm, pick, pick_le, right_unit, sum, sum_less, total_more, total_same}
 use Rattle.pulse.proofs.Trees.{along, apart, back, count_of, counter_sum, direct, end, from_below, head_unserved, houses_of, in_tree, line, only_server, server, start, to_below}
 
 -- the view once house h was called with the value x, with these lists on the lines
@@ -195,10 +195,6 @@ module _ {V W F : Type 0} (q : Sense V W F) (laws : Laws V W F q) (p : Plan) (v 
           let less : sum (count_of p) (λ j. pick (eqb (end p j) h) (arrived j)) < sum (count_of p) (λ j. pick (eqb (end p j) h) (bit (back p j))) = sum_less (count_of p) (λ j. pick (eqb (end p j) h) (arrived j)) (λ j. pick (eqb (end p j) h) (bit (back p j))) i lt (λ j l. pick_le (eqb (end p j) h) (arrived j) (bit (back p j)) (arrived_few j l)) here in
           omega (arith, less, ok.awaits begun_then h end_below, counter_sum p h end_below)
         where
-          pick_le : (b : Bool) (x y : ℕ) → x ≤ y → pick b x ≤ pick b y
-          pick_le true x y le = le
-          pick_le false x y le = omega arith
-
           here : pick (eqb (end p i) h) (arrived i) < pick (eqb (end p i) h) (bit (back p i))
           here =
               let e = eq-eqb (end p i) h is in

@@ -1,6 +1,6 @@
 -- A round that begins where nothing waits or travels is sound.
 use Rattle.std.proofs.Common.{◌≡◌, ℕ, ◌+◌, ◌<◌, Bool, true, false, ◌&&◌, eqb, get_or, is_some, sym, refl, ap, ◌∙◌, subst, ⊎_elim, add-zero, arith}
-use Rattle.std.proofs.lemmas.Bool.{both_ways, cases_eq, cond-false, false≢true, ne_eqb, true≢false}
+use Rattle.std.proofs.lemmas.Bool.{both_ways, cases_eq, cond-false, false≢true, ne_eqb}
 use Rattle.lines.specs.declared.lines.Way.{Way}
 use Rattle.plan.specs.declared.plans.Plan.{Plan}
 use Rattle.quantity.specs.Senses.{Sense, Laws}
@@ -8,20 +8,11 @@ use Rattle.quantity.specs.Joins.{join_of}
 use Rattle.pulse.specs.Law.{over, waiting_value}
 use Rattle.pulse.specs.Traces.{Account, at, times, with_begin}
 use Rattle.pulse.proofs.Arrivals.{called_view}
-use Rattle.pulse.proofs.Bits.{at_other, loads_called, requests_other}
+use Rattle.pulse.proofs.Bits.{at_other, loads_called, off, requests_other}
 use Rattle.pulse.proofs.Ends.{Quiet}
 use Rattle.pulse.proofs.Sound.{Settled, Sound, View, carried, monoid, requests_in, responses_in}
 use Rattle.pulse.proofs.Totals.{adding, bit, pick, total_none, total_only}
 use Rattle.pulse.proofs.Trees.{back, count_of, direct, end, from_below, head_unserved, houses_of, some_house, start, to_below}
-
-no_reply : (b : Bool) → bit (b && false) ≡ 0
-no_reply true = refl
-no_reply false = refl
-
-pub off : (x y : Bool) → y ≡ false → bit (x && y) ≡ 0
-off true true e = absurd (true≢false e)
-off true false e = refl
-off false y e = refl
 
 module _ {V W F : Type 0} (q : Sense V W F) (laws : Laws V W F q) (p : Plan) (v : View V W) (a : Account)
     (fresh : (h : ℕ) → h < houses_of p → v.called h ≡ false)
@@ -52,12 +43,12 @@ module _ {V W F : Type 0} (q : Sense V W F) (laws : Laws V W F q) (p : Plan) (v 
   pub round_begins : Sound V W F q p.draft (called_view q p v 0 (q.given 0 (a.given 0)) v.on_line) (λ _. false) (λ _. 0) (with_begin a)
   round_begins = record {
     requests = λ i l. requests_other (direct p i) (v.called (end p i)) (v.called (start p i)) (v.request i) (eqb (end p i) 0) (eqb (start p i) 0) (requests_in (v.on_line i)) (no_requests i l) (λ d. ne_eqb (end p i) 0 (head_unserved p Way.Direct i l d)) (from_head i l);
-    responses = λ i l. omega (arith, ap responses_in (still i l).0, ap (λ o. bit (is_some o)) (still i l).2, no_reply (back p i));
+    responses = λ i l. omega (arith, ap responses_in (still i l).0, ap (λ o. bit (is_some o)) (still i l).2, off (back p i) false refl);
     awaits = λ _ h l. ap (λ k. v.awaited h + k) (total_none ◌+◌ 0 adding (count_of p) _ (λ i _. no_pick (eqb (end p i) h))) ∙ add-zero (v.awaited h) ∙ awaits-all h l;
     sends = λ h l s. absurd (false≢true s);
     begins = refl;
     hands = omega (arith, total_only ◌+◌ 0 adding (houses_of p) (λ h. bit (at v.called 0 true h)) 0 (some_house p) (λ j l ne. ap bit (at_other v.called 0 true j ne ∙ fresh j l)), total_none ◌+◌ 0 adding (count_of p) (λ _. 0) (λ i l. refl));
-    loads = λ i l. loads_called (direct p i) (v.called (start p i)) (v.request i) (eqb (start p i) 0) 0 (requests_in (v.on_line i)) (bit (direct p i && v.called (end p i))) (bit (is_some (v.response i))) (bit (back p i && false)) (no_requests i l) (from_head i l) (omega (arith, no_reply (back p i), ap bit (still i l).1, ap (λ o. bit (is_some o)) (still i l).2, off (direct p i) (v.called (start p i)) (fresh (start p i) (from_below p i l))));
+    loads = λ i l. loads_called (direct p i) (v.called (start p i)) (v.request i) (eqb (start p i) 0) 0 (requests_in (v.on_line i)) (bit (direct p i && v.called (end p i))) (bit (is_some (v.response i))) (bit (back p i && false)) (no_requests i l) (from_head i l) (omega (arith, off (back p i) false refl, ap bit (still i l).1, ap (λ o. bit (is_some o)) (still i l).2, off (direct p i) (v.called (start p i)) (fresh (start p i) (from_below p i l))));
     takes = λ h l. ⊎_elim (λ (e : h ≡ 0). subst (λ k. times k (with_begin a).taken ≡ bit (at v.called 0 true k)) (sym e) refl) (λ ne. cond-false (eqb 0 h) 1 0 (ne_eqb 0 h (λ e. ne (sym e))) ∙ ap bit (sym (at_other v.called 0 true h ne ∙ fresh h l))) (cases_eq h 0);
     strangers = λ h l. cond-false (eqb 0 h) 1 0 (ne_eqb 0 h (λ e. omega (arith, some_house p)));
     conserves = join_begun;

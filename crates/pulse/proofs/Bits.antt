@@ -22,6 +22,9 @@ at_alike g f i x same j =
 pub no_bit : (b : Bool) → bit b ≡ 0 → b ≡ false
 no_bit b e = grind (arith, nat_tests)
 
+pub off : (x y : Bool) → y ≡ false → bit (x && y) ≡ 0
+off x y e = grind (arith, nat_tests)
+
 pub few_bit : (b : Bool) → bit b ≤ 1
 few_bit b = grind (arith, nat_tests)
 

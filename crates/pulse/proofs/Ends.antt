@@ -1,7 +1,7 @@
 -- What the invariant says at the ends of a round: before the first, once the head has its answer, and where nothing waits or
 -- travels.
 use Rattle.std.proofs.Common.{◌≡◌, ℕ, zero, suc, ◌+◌, ◌-◌, ◌*◌, ◌<◌, ◌≤◌, Bool, true, false, cond, ◌&&◌, eqb, ◌⊎◌, [], is_some, None, sym, refl, ap, ◌∙◌, subst, inl, inr, ⊎_elim, arith}
-use Rattle.std.proofs.lemmas.Bool.{both_ways, cases_Bool, cases_eq, cases_lt, cond-true, cond-false, eq-eqb, eqb-true, false≢true, ne_eqb, true≢false}
+use Rattle.std.proofs.lemmas.Bool.{both_ways, cases_Bool, cases_eq, cases_lt, cond-true, cond-false, eq-eqb, eqb-true, false≢true, ne_eqb}
 use Rattle.lines.specs.declared.lines.Way.{Way}
 use Rattle.plan.specs.declared.plans.Plan.{Plan}
 use Rattle.plan.specs.Rules.{due}
@@ -10,9 +10,9 @@ use Rattle.quantity.specs.Joins.{join_of}
 use Rattle.pulse.specs.Law.{over, waiting_value}
 use Rattle.pulse.specs.Traces.{Account, times}
 use Rattle.pulse.proofs.Arrivals.{arrived_few, head_called}
-use Rattle.pulse.proofs.Bits.{bit_left, few_bit, no_bit, none_there}
+use Rattle.pulse.proofs.Bits.{bit_left, few_bit, no_bit, none_there, off}
 use Rattle.pulse.proofs.Sound.{Settled, Sound, View, asked, carried, empty, monoid, replied, requests_in, responses_in}
-use Rattle.pulse.proofs.Totals.{adding, bit, pick, regroup, right_unit, sum, tight, total_both, total_none, total_only, total_same}
+use Rattle.pulse.proofs.Totals.{adding, at_most, bit, pick, pick_le, regroup, right_unit, sum, tight, total_both, total_none, total_only, total_same}
 use Rattle.pulse.proofs.Trees.{along, back, count_of, counter_sum, direct, due_house, due_total, end, from_below, houses_of, serving_sum, some_house, start, to_below, tree_sum}
 
 -- nothing waits for the line, and nothing is on it
@@ -49,11 +49,6 @@ module _ {V W F : Type 0} (q : Sense V W F) (laws : Laws V W F q) (p : Plan) (v 
         (omega (arith, ok.requests i lt, off (direct p i) (v.called (start p i)) (uncalled (start p i) (from_below p i lt))))
         (omega (arith, ok.responses i lt, off (back p i) (sent (start p i)) unsent))
       where
-        off : (x y : Bool) → y ≡ false → bit (x && y) ≡ 0
-        off true true e = absurd (true≢false e)
-        off true false e = refl
-        off false y e = refl
-
         unsent : sent (start p i) ≡ false
         unsent = ⊎_elim (λ e. absurd (both_ways (v.called (start p i)) (uncalled (start p i) (from_below p i lt)) (ok.sends (start p i) (from_below p i lt) e).1)) (λ e. e) (cases_Bool (sent (start p i)))
 
@@ -67,10 +62,6 @@ module _ {V W F : Type 0} (q : Sense V W F) (laws : Laws V W F q) (p : Plan) (v 
         let e = eq-eqb h h refl in
         let same = tight (count_of p) (λ j. pick (eqb (end p j) h) (arrived j)) (λ j. pick (eqb (end p j) h) (bit (back p j))) (λ j l. pick_le (eqb (end p j) h) (arrived j) (bit (back p j)) (arrived_few q laws p v sent arrived a ok j l)) (omega (arith, ok.awaits is-called h (to_below p i lt), counter_sum p h (to_below p i lt))) i lt in
         sym (cond-true (eqb h h) (arrived i) 0 e) ∙ same ∙ cond-true (eqb h h) (bit (back p i)) 0 e
-      where
-        pick_le : (b : Bool) (x y : ℕ) → x ≤ y → pick b x ≤ pick b y
-        pick_le true x y le = le
-        pick_le false x y le = omega arith
 
     module _ (is-done : v.awaited 0 ≡ 0) where
       done_at : (h : ℕ) → h < houses_of p → cond (eqb h 0) true (sent h) ≡ true → (v.called h ≡ true) × (v.awaited h ≡ 0)
@@ -169,10 +160,6 @@ module _ {V W F : Type 0} (q : Sense V W F) (laws : Laws V W F q) (p : Plan) (v 
         let same = tight (count_of p) arrived (λ i. bit (back p i)) (λ i l. arrived_few q laws p v sent arrived a ok i l) (omega (arith, few, ok.hands, ap bit is-called, tree_sum p Way.Back, some_house p)) in
         let e : sum (count_of p) (λ j. pick (eqb (end p j) 0) (arrived j)) ≡ sum (count_of p) (λ j. pick (eqb (end p j) 0) (bit (back p j))) = total_same ◌+◌ 0 adding (count_of p) _ _ (λ j l. ap (pick (eqb (end p j) 0)) (same j l)) in
         omega (arith, e, ok.awaits is-called 0 (some_house p), counter_sum p 0 (some_house p))
-      where
-        at_most : (n : ℕ) (f : ℕ → ℕ) → ((i : ℕ) → f i ≤ 1) → sum n f ≤ n
-        at_most zero f all = omega arith
-        at_most (suc n) f all = omega (arith, all n, at_most n f all)
 
     -- WHERE NOTHING WAITS OR TRAVELS
 

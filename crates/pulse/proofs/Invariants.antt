@@ -1,5 +1,5 @@
 -- The invariant of a row, kept by every call: every state that a run of a just made row leads to has it.
-use Rattle.std.proofs.Common.{◌≡◌, ℕ, zero, suc, ◌+◌, ◌-◌, ◌<◌, ◌≤◌, Bool, true, false, not, ◌&&◌, ◌||◌, eqb, ltb, ◌≢◌, List, [], ◌∷◌, ◌++◌, map, length, get_or, set, is_some, Some, None, Ok, Err, Option, Result, sym, refl, ap, ◌∙◌, subst, ⊎_elim, arith}
+use Rattle.std.proofs.Common.{◌≡◌, ℕ, ◌+◌, ◌-◌, ◌<◌, ◌≤◌, Bool, true, false, not, ◌&&◌, ◌||◌, eqb, ltb, ◌≢◌, List, [], ◌∷◌, ◌++◌, map, length, get_or, set, is_some, Some, None, Ok, Err, Option, Result, sym, refl, ap, ◌∙◌, subst, ⊎_elim, arith}
 use lib.ListN.{length-map, length-replicate, get_or-map}
 use Rattle.std.proofs.lemmas.List.{length-set}
 use Rattle.std.proofs.lemmas.Bool.{and_from, and_parts, both_ways, cases_Bool, cases_eq, cond-false, cond-true, eq-eqb, eqb-false, eqb-true, false≢true, ltb-true, ne_eqb, not-true, or_cases}
@@ -26,13 +26,13 @@ use Rattle.pulse.specs.States.{State, just_made, on, reading_of}
 use Rattle.pulse.specs.Steps.{response_next, Begins, HandsOver, Loads, Reads, Run, Sets, Step, begin_refusal, check, end_of, handed, has_line, load_refusal, loaded, next, rest, waits, with_list, with_reading, with_round, with_waiting}
 use Rattle.pulse.specs.Traces.{Account, account, account_from, at, no_account, noted, takes, with_begin, with_load, with_set}
 use Rattle.pulse.proofs.Arrivals.{arrived_few, awaited_then, called_view, handed_account, house_sends, received_view, request_arrives, request_tells, response_arrives}
-use Rattle.pulse.proofs.Beginnings.{off, round_begins, settled_begun}
-use Rattle.pulse.proofs.Bits.{at_alike, at_other, at_same, few_bit}
+use Rattle.pulse.proofs.Beginnings.{round_begins, settled_begun}
+use Rattle.pulse.proofs.Bits.{at_alike, at_other, at_same, few_bit, off}
 use Rattle.pulse.proofs.Ends.{Quiet, quiet_after, quiet_before}
 use Rattle.pulse.proofs.Loadings.{load_request, load_response, request_loaded, response_loaded}
 use Rattle.pulse.proofs.Sound.{Settled, Sound, View, carried, monoid, requests_in, responses_in, view}
 use Rattle.pulse.proofs.Tables.{Shaped, alike, field, read_set, same_view, shaped_called, shaped_received, shaped_sent, view_called, view_received, view_sent}
-use Rattle.pulse.proofs.Totals.{adding, bit, sum, sum_le, total_none}
+use Rattle.pulse.proofs.Totals.{adding, at_most, bit, sum_le, total_none}
 use Rattle.pulse.proofs.Trees.{back, count_of, direct, end, few_houses, houses_of, some_house, start, to_below, tree_sum}
 use Rattle.lines.specs.declared.lines.Way.{Way}
 
@@ -58,10 +58,6 @@ module _ {V W F : Type 0} (q : Sense V W F) (laws : Laws V W F q) where
   pub few_hands : (p : Plan) (v : View V W) (sent : ℕ → Bool) (arrived : ℕ → ℕ) (a : Account) → Sound V W F q p.draft v sent arrived a → a.hand_overs ≤ 95
   few_hands p v sent arrived a ok =
       omega (arith, ok.hands, at_most (houses_of p) (λ h. bit (v.called h)) (λ h. few_bit (v.called h)), sum_le (count_of p) arrived _ (arrived_few q laws p v sent arrived a ok), tree_sum p Way.Back, few_houses p)
-    where
-      at_most : (n : ℕ) (f : ℕ → ℕ) → ((i : ℕ) → f i ≤ 1) → sum n f ≤ n
-      at_most zero f all = omega arith
-      at_most (suc n) f all = omega (arith, all n, at_most n f all)
 
   -- AFTER A MESSAGE HAS COME: the house settles
 

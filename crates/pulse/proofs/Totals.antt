@@ -1,5 +1,5 @@
 -- Totals over the numbers below n, in any commutative monoid, and sums of numbers.
-use Rattle.std.proofs.Common.{◌≡◌, ℕ, zero, suc, ◌+◌, ◌<◌, ◌≤◌, Bool, cond, eqb, ◌≢◌, List, [], ◌∷◌, length, get_or, count_by, sym, refl, ap, ◌∙◌, subst, ⊎_elim, add_assoc, add_comm, zero-add, arith}
+use Rattle.std.proofs.Common.{◌≡◌, ℕ, zero, suc, ◌+◌, ◌<◌, ◌≤◌, Bool, true, false, cond, eqb, ◌≢◌, List, [], ◌∷◌, length, get_or, count_by, sym, refl, ap, ◌∙◌, subst, ⊎_elim, add_assoc, add_comm, zero-add, arith}
 use Rattle.std.proofs.lemmas.List.Sums.{sum_by-cons}
 use Rattle.std.proofs.lemmas.Bool.{cases_eq, cases_lt, cond-true, cond-false, eq-eqb, ne_eqb}
 use Rattle.pulse.specs.Law.{total}
@@ -81,6 +81,14 @@ bit b = cond b 1 0
 -- a number where the test holds, else 0
 abbrev pub pick : Bool → ℕ → ℕ
 pick b x = cond b x 0
+
+pub pick_le : (b : Bool) (x y : ℕ) → x ≤ y → pick b x ≤ pick b y
+pick_le true x y le = le
+pick_le false x y le = omega arith
+
+pub at_most : (n : ℕ) (f : ℕ → ℕ) → ((i : ℕ) → f i ≤ 1) → sum n f ≤ n
+at_most zero f all = omega arith
+at_most (suc n) f all = omega (arith, all n, at_most n f all)
 
 pub sum_le : (n : ℕ) (f g : ℕ → ℕ) → ((i : ℕ) → i < n → f i ≤ g i) → sum n f ≤ sum n g
 sum_le zero f g le = omega arith

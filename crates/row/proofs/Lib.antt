@@ -1,5 +1,4 @@
 mod AtLines
 mod Empty
-mod Idle
 mod KeepsLaw
 mod Fitness
