@@ -1,12 +1,26 @@
--- A count of the elements that pass a test: where it is at most one, the element is the only one.
-use Rattle.std.proofs.Common.{◌≡◌, ℕ, zero, suc, ◌<◌, ◌≤◌, Bool, true, false, not, cond, List, [], ◌∷◌, length, get_or, count_by, Some, None, refl, ap, ⊎_elim, arith}
+-- A count of the elements that pass a test: it is a fold that adds one for each, and where it is at most one, the element
+-- is the only one.
+use Rattle.std.proofs.Common.{◌≡◌, ℕ, zero, suc, ◌+◌, ◌%◌, ◌^◌, ◌<◌, ◌≤◌, Bool, true, false, not, cond, fold, List, [], ◌∷◌, length, get_or, count_by, Some, None, refl, ap, ◌∙◌, ⊎_elim, arith}
 use Rattle.std.proofs.lemmas.List.Sums.{get_or-le-sum_by, prefix_len_passes, sum_by-cons}
 use Rattle.std.specs.List.{position, position_or_len}
-use Rattle.std.proofs.lemmas.Bool.{cases_Bool, cases_lt, cond-true, cond-false, lt-ltb, not-true}
+use Rattle.std.proofs.lemmas.Bool.{cases_Bool, cases_lt, cond_both, cond-true, cond-false, lt-ltb, not-true}
 
 pub untrue : (b : Bool) → (b ≡ true → ⊥) → b ≡ false
 untrue true no_way = absurd (no_way refl)
 untrue false no_way = refl
+
+-- the fold adds modulo 2^64, which the count does not reach
+pub folded : {X : Type 0} (p : X → Bool) (n : ℕ) (xs : List X) → n + length xs < 2 ^ 64 → fold (λ k x. cond (p x) ((k + 1) % 2 ^ 64) k) n xs ≡ n + count_by p xs
+folded p n [] few = omega arith
+folded p n (x ∷ xs) few =
+    let one : cond (p x) 1 0 ≤ 1 = cond_both (p x) 1 0 (λ k. k ≤ 1) (λ _. omega arith) (λ _. omega arith) in
+    let once : cond (p x) ((n + 1) % 2 ^ 64) n ≡ n + cond (p x) 1 0 =
+    elim (p x) as (λ b. cond b ((n + 1) % 2 ^ 64) n ≡ n + cond b 1 0) [
+      | true ↦ omega arith
+      | false ↦ omega arith
+    ] in
+    let rest : fold (λ k y. cond (p y) ((k + 1) % 2 ^ 64) k) (n + cond (p x) 1 0) xs ≡ n + cond (p x) 1 0 + count_by p xs = folded p (n + cond (p x) 1 0) xs (omega arith) in
+    ap (λ k. fold (λ k y. cond (p y) ((k + 1) % 2 ^ 64) k) k xs) once ∙ omega (arith, rest, sum_by-cons (λ y. cond (p y) 1 0) x xs)
 
 module _ {X : Type 0} (p : X → Bool) (d : X) where
   pub counted : (xs : List X) (i : ℕ) → i < length xs → p (get_or xs i d) ≡ true → 1 ≤ count_by p xs

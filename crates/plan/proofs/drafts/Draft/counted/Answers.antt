@@ -21,7 +21,7 @@ pub invariant_of-self : goal.invariant_of-self
 invariant_of-self c =
     let d = c.args.self in
     let made = c.from_fn-self.ensures.items in
-    let counts = filled _ (entering d) _ (λ i r q k. search rules) _ 0 48 made in
+    let counts = filled _ (entering d) _ (λ i r q k. search (rules, none_enters d i)) _ 0 48 made in
     let past = λ (h : ℕ). get_or_past c.from_fn-self.result h 0 in
     record {
       size = d.size;
@@ -33,4 +33,7 @@ invariant_of-self c =
     }
 
 pub returns : goal.returns
-returns c = (refl, refl, refl, refl, λ h lt. filled _ (entering c.args.self) _ (λ i r q k. search rules) _ 0 48 c.from_fn-self.ensures.items h (omega (arith, c.args.self.size)))
+returns c =
+    let d = c.args.self in
+    let counts = filled _ (entering d) _ (λ i r q k. search (rules, none_enters d i)) _ 0 48 c.from_fn-self.ensures.items in
+    (refl, refl, refl, refl, λ h lt. counts h (omega (arith, d.size)))

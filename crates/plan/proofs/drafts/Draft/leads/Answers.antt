@@ -6,7 +6,6 @@ use Rattle.plan.specs.Rules.{lines_of, Leads}
 use Rattle.plan.proofs.Forms.{form_of, length_lines}
 use Rattle.plan.proofs.Ways.{end_below, head_leads, leads_by, leads_on, unserved, served}
 use Rattle.plan.proofs.drafts.Draft.leads.Goals as goal
-use Rattle.plan.proofs.drafts.Draft.leads.Goals.{else-loop-step-test, then-loop-step-test+in_default}
 
 told : {P : Type 0} (at : ℕ) → (at ≡ 0 → P) → (P → at ≡ 0) → MatchBool (eqb at 0) P (P → ⊥)
 told {P} at here there =
@@ -35,21 +34,23 @@ loop-step-preserved c =
       λ way. subst next (sym moved) (leads_on d w single h lt i first k c.loop-step-test.true (c.loop-step.invariant.2 way)),
     )
 
+pub returns-then-at-eq0 : goal.returns-then-at-eq0
+returns-then-at-eq0 c =
+    let d = c.args.self.now in
+    let w = c.args.way in
+    let left = d.houses - c.loop-step._step in
+    c.loop-step.invariant.1 (subst (Leads w (lines_of d) left) (sym c.if-at-eq0.true) (head_leads w (lines_of d) left))
+
+pub returns-in_default : goal.returns-in_default
+returns-in_default c = λ way.
+    c.if-at-eq0.false (unserved c.args.self.now c.args.way c.requires.single c.loop-step.at c.loop-step.invariant.0 (sym c.server.ensures ∙ c.in_default.is))
+
 pub returns : goal.returns
 returns c =
     let d = c.args.self.now in
     let w = c.args.way in
     let at = c.loop-step.at in
-    let left = d.houses - c.loop-step._step in
-    elim c.loop-step-test.branch [
-      | else-loop-step-test b ↦
-          let none_left : left ≡ 0 = omega arith in
-          told at
-          (λ head. c.loop-step.invariant.1 (subst (λ s. Leads w (lines_of d) s at) (sym none_left) head))
-          (λ way. subst (λ s. Leads w (lines_of d) s at) none_left (c.loop-step.invariant.2 way))
-      | then-loop-step-test+in_default b ↦
-          let head = unserved d w c.requires.single at c.loop-step.invariant.0 (sym b.server.ensures ∙ b.in_default.is) in
-          told at
-          (λ _. c.loop-step.invariant.1 (subst (Leads w (lines_of d) left) (sym head) (head_leads w (lines_of d) left)))
-          (λ _. head)
-    ]
+    let none_left : d.houses - c.loop-step._step ≡ 0 = omega arith in
+    told at
+    (λ head. c.loop-step.invariant.1 (subst (λ s. Leads w (lines_of d) s at) (sym none_left) head))
+    (λ way. subst (λ s. Leads w (lines_of d) s at) none_left (c.loop-step.invariant.2 way))
