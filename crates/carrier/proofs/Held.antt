@@ -1,8 +1,9 @@
 -- What places hold.
-use Rattle.std.proofs.Common.{◌≡◌, ℕ, zero, suc, ◌-◌, ◌<◌, ◌≢◌, List, [], ◌∷◌, ◌++◌, length, get_or, take, drop, set, Some, None, Option, sym, refl, ap, ◌∙◌, arith, length-set, get_or-set_same}
+use Rattle.std.proofs.Common.{◌≡◌, ℕ, zero, suc, ◌+◌, ◌-◌, ◌<◌, ◌≢◌, List, [], ◌∷◌, ◌++◌, length, count_by, is_some, cond, get_or, take, drop, set, Some, None, Option, sym, refl, ap, ◌∙◌, arith, length-set, get_or-set_same}
 use borrow.Rule.Slice.PartMut.{put_mid, mid_of}
 use Rattle.std.proofs.lemmas.Slice.{put_mid-rotated}
 use Rattle.std.proofs.lemmas.List.Elements.{filter_map-append}
+use Rattle.std.proofs.lemmas.List.Sums.{sum_by-cons}
 use Rattle.std.specs.List.{cons_option, remove}
 use Rattle.carrier.specs.declared.messages.Message.{Message}
 use Rattle.carrier.specs.Places.{held}
@@ -33,3 +34,9 @@ pub held_full :
 held_full [] full = refl
 held_full (None ∷ ps) full = absurd (full 0 (omega arith) refl)
 held_full (Some x ∷ ps) full = ap suc (held_full ps (λ k h. full (suc k) (omega arith)))
+
+-- the messages are as many as the places that are not free
+pub held_count : {W : Type 0} (ps : List (Option (Message W))) → count_by is_some ps ≡ length (held ps)
+held_count [] = refl
+held_count (None ∷ ps) = held_count ps
+held_count (Some x ∷ ps) = omega (arith, sum_by-cons (λ q. cond (is_some q) 1 0) (Some x) ps, held_count ps)

@@ -5,6 +5,7 @@
 mod carriers;
 mod makes;
 mod messages;
+mod named;
 mod places;
 mod radios;
 mod stores;
@@ -13,5 +14,6 @@ mod wires;
 
 pub use carriers::Carrier;
 pub use messages::{Kind, Message};
+pub use named::carriers_take_as_named;
 pub use radios::Radio;
 pub use wires::Wire;
