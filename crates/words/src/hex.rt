@@ -40,12 +40,33 @@ pub fn from_hex(heap: Global, word: &[u8]) -> Result<Option<Vec<u8>>, AllocError
     Ok(Some(bytes))
 }
 
+// The hexadecimal digit of a value, in capitals.
+fn digit_of(value: u8) -> char
+    requires { value < 16 }
+    ensures { result ≡ hex_digit value }
+{
+    if value < 10 {
+        (b'0' + value) as char
+    } else {
+        (b'A' + (value - 10)) as char
+    }
+}
+
+// Adds the two digits of a byte to the text.
+fn push_byte(text: &mut String, byte: u8) -> Result<(), AllocError>
+    ensures { OnOk result (string_bytes text.new ≡ string_bytes text.old ++ pair_of byte) }
+{
+    text.push(digit_of(byte / 16))?;
+    text.push(digit_of(byte % 16))?;
+    Ok(())
+}
+
 // Adds the bytes to the text in hexadecimal capitals, two digits each.
 pub fn to_hex(text: &mut String, bytes: &[u8]) -> Result<(), AllocError>
     ensures { OnOk result (string_bytes text.new ≡ string_bytes text.old ++ hex_of bytes.now) }
 {
     for byte in bytes {
-        write!(text, "{byte:02X}")?;
+        push_byte(text, *byte)?;
     }
     Ok(())
 }
