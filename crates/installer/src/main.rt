@@ -10,7 +10,9 @@ const LONGEST_INPUT: u64 = 65_536;
 fn main(rt: HostRuntime) -> anyhow::Result<()> {
     let mut input = Vec::new(rt.alloc());
     rt.stdin().take(LONGEST_INPUT).read_to_end(&mut input)?;
-    let text = answers_to(rt.alloc(), &input).context("no memory for the answers")?;
+    let text = answers_to(rt.alloc(), &input)
+        .ok()
+        .context("no memory for the answers")?;
     print!(rt; "{text}")?;
     Ok(())
 }
